@@ -1,0 +1,6 @@
+pub mod Ending
+pub mod Headline
+pub mod LineReader
+pub mod Report
+pub mod Serving
+pub mod Writing

@@ -1,0 +1,12 @@
+-- The status that the program ends with.
+use Rattle.std.specs.Prelude.{ℕ, Option, Some, None}
+use Rattle.dfs_run.specs.declared.report.FaultNote.{FaultNote}
+use Rattle.dfs_run.specs.declared.report.FaultNote.TheVariants as fault
+
+abbrev pub status_of : Option FaultNote → ℕ
+status_of None = 0
+status_of (Some fault.NoMemory) = 1
+status_of (Some fault.Usage) = 2
+status_of (Some (fault.BadDeck line)) = 3
+status_of (Some fault.ReadFault) = 4
+status_of (Some fault.WriteFault) = 5

@@ -1,0 +1,61 @@
+//! What a top call reports.
+
+ghost use Rattle.std.specs.Prelude.{◌≡◌};
+ghost use Rattle.dfs_run.specs.Report.{status_of};
+
+use thiserror::Error;
+use vfs_base::{Entry, List};
+
+/// How a run of the program ended.
+#[derive(Debug, Drop)]
+pub struct Report {
+    /// The status that the program ends with.
+    pub status: u8,
+    /// The steps that were taken, in their order.
+    pub schedule: List<Entry>,
+    /// Why it ended so; `None` exactly at status 0.
+    pub fault: Option<FaultNote>,
+}
+
+/// Why a run ended early. It is shown as the line that the program prints for it.
+#[derive(Clone, Copy, Debug, PartialEq, Eq, Error)]
+pub enum FaultNote {
+    /// No memory; status 1.
+    #[error("dfs: no memory")]
+    NoMemory,
+    /// The program's words are outside the grammar; status 2.
+    #[error("usage: dfs MODE [--seed N] [--steps N] [--image PATH]")]
+    Usage,
+    /// That line of the input, counted from 1, is outside the form; status 3.
+    #[error("dfs: line {line}: bad deck")]
+    BadDeck { line: u64 },
+    /// The source failed; status 4.
+    #[error("dfs: read fault")]
+    ReadFault,
+    /// The sink failed; status 5.
+    #[error("dfs: write fault")]
+    WriteFault,
+}
+
+impl Report {
+    // The report of these steps, with the status of its note.
+    pub fn new(schedule: List<Entry>, fault: Option<FaultNote>) -> Report
+        ensures status { result.status ≡ status_of fault }
+        ensures schedule { result.schedule ≡ schedule }
+        ensures fault { result.fault ≡ fault }
+    {
+        let status = match fault {
+            None => 0,
+            Some(FaultNote::NoMemory) => 1,
+            Some(FaultNote::Usage) => 2,
+            Some(FaultNote::BadDeck { line: _ }) => 3,
+            Some(FaultNote::ReadFault) => 4,
+            Some(FaultNote::WriteFault) => 5,
+        };
+        Report {
+            status,
+            schedule,
+            fault,
+        }
+    }
+}

@@ -1,0 +1,122 @@
+//! Lines are read, run and shown, one after the other.
+
+ghost use Rattle.std.specs.Prelude.{◌≡◌, ◌≤◌, ◌<◌, ◌+◌, IfOk, IfErr, OnOk, IfSome, IfNone, true};
+ghost use Rattle.std.specs.Bool.{OnFalse, OnTrue};
+ghost use Rattle.std.specs.Io.KnownBytes.{IsAtEnd};
+ghost use Rattle.vfs_outside.specs.Causes.{StillTells};
+ghost use Rattle.dfs_run.specs.LineReader.{ahead, ReadsLine, ReadsEnd};
+ghost use Rattle.dfs_run.specs.Serving.{moment_of, KnowsEnd, Serves, ServesAll, Stops, StopsAtLine, StopsPosting, WritesBlock, HasReason};
+
+use std::alloc::Global;
+use vfs_base::Bytes;
+use vfs_outside::{Sink, Source};
+
+use crate::line_reader::{LineReader, ReadStop};
+use crate::report::FaultNote;
+use crate::shell::Shell;
+use crate::writing::write_all;
+
+/// Serves the lines of the source to its end: each is read, run, and its block written, before the
+/// next is awaited.
+#[tactic(auto, using(crate::proofs::LineLemmas::more_lines, crate::proofs::LineLemmas::serves_all))]
+pub fn serve_lines<S: Source, K: Sink>(
+    alloc: Global,
+    reader: &mut LineReader,
+    shell: &mut Shell,
+    source: &mut S,
+    sink: &mut K,
+) -> Result<(), FaultNote>
+    ensures ok { OnOk result (ServesAll (moment_of reader.old shell.old.tree shell.old.schedule (S.left source.old) (K.written sink.old))
+        shell.new.schedule (K.written sink.new)) }
+    ensures end { KnowsEnd reader.old (S.left source.old) → OnOk result (IsAtEnd (S.left source.new)) }
+    ensures quiet { OnOk result ((S.faults source.new ≡ S.faults source.old) × (K.faults sink.new ≡ K.faults sink.old)) }
+    ensures stop { IfErr result (Stops (moment_of reader.old shell.old.tree shell.old.schedule (S.left source.old) (K.written sink.old))
+        shell.new.schedule (K.written sink.new) (S.left source.new)) }
+    ensures cause { IfErr result (HasReason (S.faults source.old) (S.faults source.new) (K.faults sink.old) (K.faults sink.new)) }
+{
+    'lines: loop {
+        match serve_line(alloc, reader, shell, source, sink) {
+            Ok(true) => {}
+            Ok(false) => return Ok(()),
+            Err(fault) => return Err(fault),
+        }
+    }
+}
+
+// Serves the next line; false at the end of the input.
+#[tactic(auto, using(crate::proofs::LineLemmas::line_served, crate::proofs::LineLemmas::reading_stopped, crate::proofs::LineLemmas::posting_stopped))]
+fn serve_line<S: Source, K: Sink>(
+    alloc: Global,
+    reader: &mut LineReader,
+    shell: &mut Shell,
+    source: &mut S,
+    sink: &mut K,
+) -> Result<bool, FaultNote>
+    ensures more { IfOk result (λ more. OnTrue more (Serves
+        (moment_of reader.old shell.old.tree shell.old.schedule (S.left source.old) (K.written sink.old))
+        (moment_of reader.new shell.new.tree shell.new.schedule (S.left source.new) (K.written sink.new)))) }
+    ensures over { IfOk result (λ more. OnFalse more ((shell.new ≡ shell.old) × (sink.new ≡ sink.old)
+        × IsAtEnd (ahead reader.old (S.left source.old)) × (reader.new.at_end ≡ true))) }
+    ensures knows { KnowsEnd reader.old (S.left source.old) → KnowsEnd reader.new (S.left source.new) }
+    ensures grows { IfOk result (λ more. OnTrue more ((reader.old.size < reader.new.size) × (reader.new.size ≤ 16777216))) }
+    ensures quiet { OnOk result ((S.faults source.new ≡ S.faults source.old) × (K.faults sink.new ≡ K.faults sink.old)) }
+    ensures stop { IfErr result (Stops (moment_of reader.old shell.old.tree shell.old.schedule (S.left source.old) (K.written sink.old))
+        shell.new.schedule (K.written sink.new) (S.left source.new)) }
+    ensures cause { IfErr result (HasReason (S.faults source.old) (S.faults source.new) (K.faults sink.old) (K.faults sink.new)) }
+{
+    match next_line(alloc, reader, source) {
+        Err(fault) => Err(fault),
+        Ok(None) => Ok(false),
+        Ok(Some(line)) => match post_line(alloc, shell, sink, line.as_slice()) {
+            Err(fault) => Err(fault),
+            Ok(()) => Ok(true),
+        },
+    }
+}
+
+// The next line of the source, with the report's words for why none came.
+fn next_line<S: Source>(
+    alloc: Global,
+    reader: &mut LineReader,
+    source: &mut S,
+) -> Result<Option<Bytes>, FaultNote>
+    ensures line { IfOk result (λ found. IfSome found (ReadsLine reader.old reader.new (S.left source.old) (S.left source.new))) }
+    ensures end { IfOk result (λ found. IfNone found (ReadsEnd reader.old reader.new (S.left source.old))) }
+    ensures at_end { reader.old.at_end ≡ true → reader.new.at_end ≡ true }
+    ensures knows { KnowsEnd reader.old (S.left source.old) → KnowsEnd reader.new (S.left source.new) }
+    ensures quiet { OnOk result (S.faults source.new ≡ S.faults source.old) }
+    ensures stop { IfErr result (StopsAtLine reader.old reader.new (S.left source.old) (S.left source.new)) }
+    ensures cause { IfErr result (HasReason (S.faults source.old) (S.faults source.new) 0 0) }
+{
+    match reader.next_line(alloc, source) {
+        Ok(found) => Ok(found),
+        Err(ReadStop::NoMemory) => Err(FaultNote::NoMemory),
+        Err(ReadStop::BadLine) => Err(FaultNote::BadDeck {
+            line: reader.number() + 1,
+        }),
+        Err(ReadStop::Failed) => Err(FaultNote::ReadFault),
+    }
+}
+
+// Runs the line, and writes its block.
+fn post_line<K: Sink>(
+    alloc: Global,
+    shell: &mut Shell,
+    sink: &mut K,
+    line: &[u8],
+) -> Result<(), FaultNote>
+    ensures ok { OnOk result (WritesBlock shell.old.tree shell.old.schedule shell.new.tree shell.new.schedule
+        (K.written sink.old) (K.written sink.new) line.now) }
+    ensures quiet { OnOk result (K.faults sink.new ≡ K.faults sink.old) }
+    ensures stop { IfErr result (StopsPosting shell.old.tree shell.old.schedule shell.new.tree shell.new.schedule
+        (K.written sink.old) (K.written sink.new) line.now) }
+    ensures cause { IfErr result (HasReason 0 0 (K.faults sink.old) (K.faults sink.new)) }
+{
+    let Ok(block) = shell.run_line(alloc, line) else {
+        return Err(FaultNote::NoMemory);
+    };
+    match write_all(sink, block.as_slice()) {
+        Ok(()) => Ok(()),
+        Err(_) => Err(FaultNote::WriteFault),
+    }
+}

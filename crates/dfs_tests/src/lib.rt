@@ -1,0 +1,11 @@
+//! Whole scripts, with what goes in and what comes out side by side, and calls that cross the crates.
+//!
+//! It offers nothing; it stands apart so that the crates below are proved once.
+#![tactic(auto)]
+
+#[cfg(test)]
+mod paths;
+#[cfg(test)]
+mod shell;
+#[cfg(test)]
+mod streams;

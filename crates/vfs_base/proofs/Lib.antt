@@ -1,0 +1,3 @@
+pub mod PathMaps
+pub mod PathOrder
+pub mod PrintedAlone

@@ -1,0 +1,6 @@
+pub mod Line
+pub mod Schedule
+pub mod Script
+pub mod Shown
+pub mod Transcript
+pub mod Tree

@@ -1,0 +1,5 @@
+pub mod Causes
+pub mod CountedStream
+pub mod FailingCalls
+pub mod MemSink
+pub mod MemSource
