@@ -3,11 +3,10 @@
 //! It ends with the report's status, and prints one line on standard error for a status other than 0.
 #![tactic(auto)]
 
+use dfs_run::{FaultNote, Report, top_alone};
 use std::env::{self, Env};
 use std::io::{self, ErrorKind};
 use std::process::ExitCode;
-
-use dfs_run::{FaultNote, Report, top_alone};
 use vfs_base::List;
 use vfs_outside::{Devices, StdSink, StdSource};
 

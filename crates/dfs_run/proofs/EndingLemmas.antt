@@ -64,8 +64,16 @@ ends_closed left before mid_sink sink rest mid steps (Some fault.WriteFault) s c
 -- a run that never began
 pub ends_unbegun : (left rest before : Option (List ℕ)) → Ends left rest [] before before (Some fault.NoMemory)
 ends_unbegun left rest before = front_unended left before before [] (record {
-  raws = []; entries = []; text = []; count = 0; reads = reads left; fits = omega arith; schedule = refl; written = Appends-nil before; shown = refl
-  })
+  raws = [];
+  entries = [];
+  text = [];
+  count = 0;
+  reads = reads left;
+  fits = omega arith;
+  schedule = refl;
+  written = Appends-nil before;
+  shown = refl;
+})
   where
     reads : (left : Option (List ℕ)) → IfSome (prepend_known [] left) (λ bytes. (later : List (List ℕ)) × (raw_lines bytes ≡ [] ++ later))
     reads None = tt

@@ -60,8 +60,8 @@ served_posts a b p = record {
   fits = omega arith;
   schedule = p.schedule;
   written = subst (Appends a.written b.written) (sym (take-length p.text)) p.written;
-  shown = served_text a b p
-  }
+  shown = served_text a b p;
+}
   where
     told : (before after : Option (List ℕ)) → WhereTold before after (ComeFirst a b p.raws)
         → IfSome before (λ bytes. (later : List (List ℕ)) × (raw_lines bytes ≡ p.raws ++ later))
@@ -72,9 +72,16 @@ served_posts a b p = record {
 -- what is done may be left without the last step
 pub Posts-unended : (a : Moment) (steps : List Entry) (sink : Option (List ℕ)) → Posts a steps sink true → Posts a steps sink false
 Posts-unended a steps sink p = record {
-  raws = p.raws; entries = p.entries; text = p.text; count = p.count; reads = p.reads; fits = p.fits;
-  schedule = p.schedule; written = p.written; shown = shown_unended (map line_text p.raws) a.tree p.entries p.text p.shown
-  }
+  raws = p.raws;
+  entries = p.entries;
+  text = p.text;
+  count = p.count;
+  reads = p.reads;
+  fits = p.fits;
+  schedule = p.schedule;
+  written = p.written;
+  shown = shown_unended (map line_text p.raws) a.tree p.entries p.text p.shown;
+}
 
 -- the front of the transcript that posted lines show, without the last step
 pub front_unended : (left before sink : Option (List ℕ)) (steps : List Entry) → Posts (opening_moment left before) steps sink false
@@ -85,10 +92,10 @@ front_unended (Some input) before sink steps p = record {
   size = p.count;
   shown = record { text = p.text; is_whole = false };
   taken = ap (λ l. shell_shown l steps) (first_lines input p.raws p.reads.0 p.reads.1)
-    ∙ ap (shown_by (map line_text p.raws) opening_tree) p.schedule ∙ p.shown;
+      ∙ ap (shown_by (map line_text p.raws) opening_tree) p.schedule ∙ p.shown;
   ends = refl;
-  written = subst (λ t. Appends before sink (take p.count t)) (sym (append-nil p.text)) p.written
-  }
+  written = subst (λ t. Appends before sink (take p.count t)) (sym (append-nil p.text)) p.written;
+}
 
 -- the same with the last step
 pub front_whole : (left before sink : Option (List ℕ)) (mid steps : List Entry) → Posts (opening_moment left before) mid sink true
@@ -99,11 +106,11 @@ front_whole (Some input) before sink mid steps p e = record {
   size = p.count;
   shown = record { text = p.text; is_whole = true };
   taken = ap (λ l. shell_shown l steps) (first_lines input p.raws p.reads.0 p.reads.1)
-    ∙ ap (shown_by (map line_text p.raws) opening_tree) (e ∙ ap (λ l. l ++ shutdown ∷ []) p.schedule)
-    ∙ shown_whole (map line_text p.raws) opening_tree p.entries p.text p.shown;
+      ∙ ap (shown_by (map line_text p.raws) opening_tree) (e ∙ ap (λ l. l ++ shutdown ∷ []) p.schedule)
+      ∙ shown_whole (map line_text p.raws) opening_tree p.entries p.text p.shown;
   ends = refl;
-  written = subst (Appends before sink) (sym (take-append-le p.count p.text (schedule_line steps) p.fits)) p.written
-  }
+  written = subst (Appends before sink) (sym (take-append-le p.count p.text (schedule_line steps) p.fits)) p.written;
+}
 
 -- served lines and the last step: the blocks of these lines
 blocks_of : (a b : Moment) (before sink : Option (List ℕ)) (steps : List Entry) (lines : List (List ℕ)) (p : Serves a b)
@@ -112,12 +119,12 @@ blocks_of : (a b : Moment) (before sink : Option (List ℕ)) (steps : List Entry
 blocks_of a b before sink steps lines p t s w e k l = record {
   shown = record { text = p.text; is_whole = true };
   taken = ap (λ m. shell_shown m steps) l
-    ∙ ap (shown_by (map line_text p.raws) opening_tree) (e ∙ ap (λ m. m ++ shutdown ∷ []) (p.schedule ∙ ap (λ m. m ++ p.entries) s))
-    ∙ ap (λ tree. shown_by (map line_text p.raws) tree (p.entries ++ shutdown ∷ [])) (sym t)
-    ∙ shown_whole (map line_text p.raws) a.tree p.entries p.text (served_text a b p);
+      ∙ ap (shown_by (map line_text p.raws) opening_tree) (e ∙ ap (λ m. m ++ shutdown ∷ []) (p.schedule ∙ ap (λ m. m ++ p.entries) s))
+      ∙ ap (λ tree. shown_by (map line_text p.raws) tree (p.entries ++ shutdown ∷ [])) (sym t)
+      ∙ shown_whole (map line_text p.raws) a.tree p.entries p.text (served_text a b p);
   whole = refl;
-  written = subst (λ m. Appends m sink p.text) w (subst (λ m. Appends a.written m p.text) (sym k) p.written)
-  }
+  written = subst (λ m. Appends m sink p.text) w (subst (λ m. Appends a.written m p.text) (sym k) p.written);
+}
 
 -- all lines were served, and the schedule's line was written
 pub ends_well : (left before sink : Option (List ℕ)) (steps : List Entry) (now : Moment) → Serves (opening_moment left before) now
@@ -128,11 +135,11 @@ ends_well (Some input) before sink steps now p over e w =
     let both = told_both input now.ahead (ComeFirst (opening_moment (Some input) before) now p.raws) (λ bytes. bytes ≡ []) p.reads over in
     let all : raw_lines input ≡ p.raws = both.1.lines ∙ ap (λ rest. p.raws ++ raw_lines rest) both.2 ∙ append-nil p.raws in
     let taken : shell_shown (input_lines input) steps ≡ Some (record { text = p.text; is_whole = true }) =
-        ap (λ l. shell_shown (map line_text l) steps) all
-        ∙ ap (shown_by (map line_text p.raws) opening_tree) (e ∙ ap (λ l. l ++ shutdown ∷ []) p.schedule)
-        ∙ shown_whole (map line_text p.raws) opening_tree p.entries p.text (served_text (opening_moment (Some input) before) now p) in
+    ap (λ l. shell_shown (map line_text l) steps) all
+    ∙ ap (shown_by (map line_text p.raws) opening_tree) (e ∙ ap (λ l. l ++ shutdown ∷ []) p.schedule)
+    ∙ shown_whole (map line_text p.raws) opening_tree p.entries p.text (served_text (opening_moment (Some input) before) now p) in
     let written : Appends before sink (p.text ++ schedule_line steps) =
-        Appends-trans before now.written sink p.text (schedule_line steps) p.written w in
+    Appends-trans before now.written sink p.text (schedule_line steps) p.written w in
     record {
       form = both.1.form ∙ ap (λ rest. first_bad_from (now.number + 1) now.size (raw_lines rest)) both.2;
       shows = record { shown = record { text = p.text; is_whole = true }; taken = taken; whole = refl; written = written };
@@ -142,9 +149,9 @@ ends_well (Some input) before sink steps now p over e w =
         shown = record { text = p.text; is_whole = true };
         taken = ap (λ l. shell_shown l steps) (first_lines input p.raws [] (all ∙ sym (append-nil p.raws)) ∙ ap (map line_text) (sym all)) ∙ taken;
         ends = refl;
-        written = subst (Appends before sink) (sym (take-length (p.text ++ schedule_line steps))) written
-        }
-      }
+        written = subst (Appends before sink) (sym (take-length (p.text ++ schedule_line steps))) written;
+      };
+    }
 
 -- the schedule's line was written in part
 pub ends_at_schedule : (left before sink : Option (List ℕ)) (steps : List Entry) (now : Moment) (count : ℕ) → Serves (opening_moment left before) now
@@ -159,12 +166,12 @@ ends_at_schedule (Some input) before sink steps now count p e w =
       size = length p.text + count;
       shown = record { text = p.text; is_whole = true };
       taken = ap (λ l. shell_shown l steps) (first_lines input p.raws q.reads.0 q.reads.1)
-        ∙ ap (shown_by (map line_text p.raws) opening_tree) (e ∙ ap (λ l. l ++ shutdown ∷ []) p.schedule)
-        ∙ shown_whole (map line_text p.raws) opening_tree p.entries p.text (served_text (opening_moment (Some input) before) now p);
+          ∙ ap (shown_by (map line_text p.raws) opening_tree) (e ∙ ap (λ l. l ++ shutdown ∷ []) p.schedule)
+          ∙ shown_whole (map line_text p.raws) opening_tree p.entries p.text (served_text (opening_moment (Some input) before) now p);
       ends = refl;
       written = subst (Appends before sink) (sym (take-append-add p.text (schedule_line steps) count))
-        (Appends-trans before now.written sink p.text (take count (schedule_line steps)) p.written w)
-      }
+          (Appends-trans before now.written sink p.text (take count (schedule_line steps)) p.written w);
+    }
 
 -- the lines before the bad one
 good_lines : (input : List ℕ) (raws later : List (List ℕ)) (line : ℕ) → raw_lines input ≡ raws ++ later → first_bad_line input ≡ Some line
@@ -185,17 +192,17 @@ ends_at_bad_line (Some input) before sink mid steps line m e =
     let both = told_both input m.now.ahead (ComeFirst a m.now p.raws) (BeginsBad m.now.size) p.reads m.bad in
     let bad = both.2 in
     let at : first_bad_from (m.now.number + 1) m.now.size (raw_lines both.0) ≡ Some (m.now.number + 1) =
-        ap (first_bad_from (m.now.number + 1) m.now.size) bad.lines
-        ∙ ap (λ b. if b then Some (m.now.number + 1) else first_bad_from (m.now.number + 1 + 1) (m.now.size + length bad.raw) bad.raws) bad.bad in
+    ap (first_bad_from (m.now.number + 1) m.now.size) bad.lines
+    ∙ ap (λ b. if b then Some (m.now.number + 1) else first_bad_from (m.now.number + 1 + 1) (m.now.size + length bad.raw) bad.raws) bad.bad in
     let form : first_bad_line input ≡ Some line = both.1.form ∙ at ∙ ap Some (sym m.line) in
     record {
       form = form;
       shows = blocks_of a m.now before sink steps (lines_in_form input) p refl refl refl
-        (e ∙ ap (λ l. l ++ shutdown ∷ []) m.schedule) m.written
-        (good_lines input p.raws (raw_lines both.0) line both.1.lines form (let n = p.number in omega (arith, m.line, n)));
+          (e ∙ ap (λ l. l ++ shutdown ∷ []) m.schedule) m.written
+          (good_lines input p.raws (raw_lines both.0) line both.1.lines form (let n = p.number in omega (arith, m.line, n)));
       front = front_whole (Some input) before sink mid steps
-        (subst (λ l. Posts a l sink true) (sym m.schedule) (subst (λ w. Posts a m.now.schedule w true) (sym m.written) (served_posts a m.now p))) e
-      }
+          (subst (λ l. Posts a l sink true) (sym m.schedule) (subst (λ w. Posts a m.now.schedule w true) (sym m.written) (served_posts a m.now p))) e;
+    }
 
 -- the lines that were read whole, and the last step
 shows_read : (before sink rest : Option (List ℕ)) (input : List ℕ) (mid steps : List Entry)
@@ -207,13 +214,13 @@ shows_read before sink (Some bytes) input mid steps m e =
     let p = m.serves in
     let both = told_both input m.now.ahead (ComeFirst a m.now p.raws) (λ x. BreaksOff x bytes) p.reads (breaks m.now.ahead m.breaks) in
     let lines : whole_lines (concat p.raws ++ both.2.partial) ≡ map line_text p.raws =
-        p.whole m.unended both.2.partial ∙ ap (λ l. map line_text p.raws ++ l) both.2.none_whole ∙ append-nil (map line_text p.raws) in
+    p.whole m.unended both.2.partial ∙ ap (λ l. map line_text p.raws ++ l) both.2.none_whole ∙ append-nil (map line_text p.raws) in
     record {
       read = concat p.raws ++ both.2.partial;
       taken = both.1.taken ∙ ap (λ l. concat p.raws ++ l) both.2.taken ∙ sym (append_assoc (concat p.raws) both.2.partial bytes);
       blocks = blocks_of a m.now before sink steps (whole_lines (concat p.raws ++ both.2.partial)) p refl refl refl
-        (e ∙ ap (λ l. l ++ shutdown ∷ []) m.schedule) m.written lines
-      }
+          (e ∙ ap (λ l. l ++ shutdown ∷ []) m.schedule) m.written lines;
+    }
   where
     breaks : (ahead : Option (List ℕ)) → WhereTold ahead (Some bytes) BreaksOff → IfSome ahead (λ x. BreaksOff x bytes)
     breaks None q = tt
@@ -229,5 +236,5 @@ ends_at_read_fault (Some input) before sink rest mid steps m e =
     record {
       shows = shows_read before sink rest input mid steps m e;
       front = front_whole (Some input) before sink mid steps
-        (subst (λ l. Posts a l sink true) (sym m.schedule) (subst (λ w. Posts a m.now.schedule w true) (sym m.written) (served_posts a m.now m.serves))) e
-      }
+          (subst (λ l. Posts a l sink true) (sym m.schedule) (subst (λ w. Posts a m.now.schedule w true) (sym m.written) (served_posts a m.now m.serves))) e;
+    }

@@ -49,19 +49,19 @@ line_served old new before after tree next schedule next_schedule sink now line 
   text = w.text;
   number = omega (arith, r.number);
   reads = told_line (moment_of old tree schedule before sink) (moment_of new next next_schedule after now) r.raw (ahead old before) (ahead new after)
-    r.number r.size (λ bytes rest t. record {
-      lines = t.1;
-      taken = t.0 ∙ ap (λ l. l ++ rest) (sym (append-nil r.raw));
-      form = first_bad_from-next (old.number + 1) old.size bytes r.raw rest t.1 r.form
-        ∙ ap (λ n. first_bad_from (n + 1) (old.size + length r.raw) (raw_lines rest)) (sym r.number)
-        ∙ ap (λ s. first_bad_from (new.number + 1) s (raw_lines rest)) (sym r.size)
-    }) r.takes;
+      r.number r.size (λ bytes rest t. record {
+        lines = t.1;
+        taken = t.0 ∙ ap (λ l. l ++ rest) (sym (append-nil r.raw));
+        form = first_bad_from-next (old.number + 1) old.size bytes r.raw rest t.1 r.form
+            ∙ ap (λ n. first_bad_from (n + 1) (old.size + length r.raw) (raw_lines rest)) (sym r.number)
+            ∙ ap (λ s. first_bad_from (new.number + 1) s (raw_lines rest)) (sym r.size);
+      }) r.takes;
   started = open_before old.at_end new.at_end stays;
   whole = λ h rest. ap (λ l. whole_lines (l ++ rest)) (append-nil r.raw) ∙ whole_lines-front r.raw rest r.single (r.ended h);
   schedule = w.runs.steps;
   written = w.written;
-  shown = shows_line tree next w.runs.entries w.text line r.raw r.text w.runs.turn
-  }
+  shown = shows_line tree next w.runs.entries w.text line r.raw r.text w.runs.turn;
+}
 
 -- the line comes first
 comes_first : (before after : Option (List ℕ)) (raw : List ℕ) → TakesLine before after raw
@@ -84,8 +84,8 @@ posting_stopped old new before after left tree next schedule next_schedule sink 
   fits = omega arith;
   schedule = s.1.steps;
   written = subst (λ w. Appends sink w []) (sym s.0) (Appends-nil sink);
-  shown = ap (λ l. shown_by (l ∷ []) tree s.1.entries) (sym r.text) ∙ s.1.shown
-  }
+  shown = ap (λ l. shown_by (l ∷ []) tree s.1.entries) (sym r.text) ∙ s.1.shown;
+}
 posting_stopped old new before after left tree next schedule next_schedule sink now line fault.Usage r s = s
 posting_stopped old new before after left tree next schedule next_schedule sink now line (fault.BadDeck place) r s = absurd s
 posting_stopped old new before after left tree next schedule next_schedule sink now line fault.ReadFault r s = absurd s
@@ -98,8 +98,8 @@ posting_stopped old new before after left tree next schedule next_schedule sink 
   fits = s.fits;
   schedule = s.runs.steps;
   written = s.written;
-  shown = shows_line tree next s.runs.entries s.text line r.raw r.text s.runs.turn []
-  }
+  shown = shows_line tree next s.runs.entries s.text line r.raw r.text s.runs.turn [];
+}
 
 -- bytes that were consumed before the rest
 consumed : (before after : Option (List ℕ)) (partial : List ℕ) → whole_lines partial ≡ [] → Consumes before after partial
@@ -121,8 +121,8 @@ reading_stopped old new before after tree schedule sink fault.NoMemory s stays =
   fits = omega arith;
   schedule = sym (append-nil schedule);
   written = Appends-nil sink;
-  shown = refl
-  }
+  shown = refl;
+}
   where
     none_first : (before : Option (List ℕ)) → IfSome before (λ bytes. (later : List (List ℕ)) × (raw_lines bytes ≡ [] ++ later))
     none_first None = tt
@@ -134,16 +134,16 @@ reading_stopped old new before after tree schedule sink (fault.BadDeck place) s 
   schedule = refl;
   written = refl;
   line = s.0;
-  bad = s.1
-  }
+  bad = s.1;
+}
 reading_stopped old new before after tree schedule sink fault.ReadFault s stays = record {
   now = moment_of old tree schedule before sink;
   serves = Serves-refl (moment_of old tree schedule before sink);
   schedule = refl;
   written = refl;
   unended = open_before old.at_end new.at_end stays s.at_end;
-  breaks = consumed (ahead old before) after s.partial s.unended s.consumes
-  }
+  breaks = consumed (ahead old before) after s.partial s.unended s.consumes;
+}
 reading_stopped old new before after tree schedule sink fault.WriteFault s stays = absurd s
 
 -- nothing is ahead at the end
@@ -154,8 +154,8 @@ serves_all start reader tree schedule left sink p over = record {
   serves = p;
   schedule = refl;
   written = refl;
-  over = none_left (ahead reader left) over
-  }
+  over = none_left (ahead reader left) over;
+}
   where
     none_left : (a : Option (List ℕ)) → IsAtEnd a → IfSome a (λ bytes. bytes ≡ [])
     none_left None q = tt

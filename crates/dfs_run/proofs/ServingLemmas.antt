@@ -34,8 +34,8 @@ pub ComeFirst-then : (a b c : Moment) (r s : List (List ℕ)) (x y z : List ℕ)
 ComeFirst-then a b c r s x y z p q = record {
   lines = p.lines ∙ ap (λ l. r ++ l) q.lines ∙ sym (append_assoc r s (raw_lines z));
   taken = p.taken ∙ ap (λ l. concat r ++ l) q.taken ∙ sym (append_assoc (concat r) (concat s) z) ∙ ap (λ l. l ++ z) (sym (concat-append r s));
-  form = p.form ∙ q.form
-  }
+  form = p.form ∙ q.form;
+}
 
 pub AreWhole-append : (r s : List (List ℕ)) → AreWhole r → AreWhole s → AreWhole (r ++ s)
 AreWhole-append r s p q rest =
@@ -61,13 +61,13 @@ Serves-then a b c p q = record {
   schedule = q.schedule ∙ ap (λ l. l ++ q.entries) p.schedule ∙ append_assoc a.schedule p.entries q.entries;
   written = Appends-trans a.written b.written c.written p.text q.text p.written q.written;
   shown = λ later more.
-    ap (λ l. shown_by (l ++ later) a.tree ((p.entries ++ q.entries) ++ more)) (map-append line_text p.raws q.raws)
-    ∙ ap (λ l. shown_by l a.tree ((p.entries ++ q.entries) ++ more)) (append_assoc (map line_text p.raws) (map line_text q.raws) later)
-    ∙ ap (shown_by (map line_text p.raws ++ (map line_text q.raws ++ later)) a.tree) (append_assoc p.entries q.entries more)
-    ∙ p.shown (map line_text q.raws ++ later) (q.entries ++ more)
-    ∙ ap (option_map (put_before p.text)) (q.shown later more)
-    ∙ put_before-twice p.text q.text (shown_by later c.tree more)
-  }
+      ap (λ l. shown_by (l ++ later) a.tree ((p.entries ++ q.entries) ++ more)) (map-append line_text p.raws q.raws)
+      ∙ ap (λ l. shown_by l a.tree ((p.entries ++ q.entries) ++ more)) (append_assoc (map line_text p.raws) (map line_text q.raws) later)
+      ∙ ap (shown_by (map line_text p.raws ++ (map line_text q.raws ++ later)) a.tree) (append_assoc p.entries q.entries more)
+      ∙ p.shown (map line_text q.raws ++ later) (q.entries ++ more)
+      ∙ ap (option_map (put_before p.text)) (q.shown later more)
+      ∙ put_before-twice p.text q.text (shown_by later c.tree more);
+}
 
 put_before-nil : (shown : Option Shown) → shown ≡ option_map (put_before []) shown
 put_before-nil None = refl
@@ -85,8 +85,8 @@ Serves-refl a = record {
   whole = λ h rest. refl;
   schedule = sym (append-nil a.schedule);
   written = Appends-nil a.written;
-  shown = λ later more. put_before-nil (shown_by later a.tree more)
-  }
+  shown = λ later more. put_before-nil (shown_by later a.tree more);
+}
   where
     told : (ahead : Option (List ℕ)) → WhereTold ahead ahead (ComeFirst a a [])
     told None = tt
@@ -105,7 +105,7 @@ after_others (Some x) (Some y) r s P lines p q = (q.0, lines x y p ∙ ap (λ l.
 shown_done-after : (a b : Moment) (p : Serves a b) (raws : List (List ℕ)) (entries : List Entry) (text : List ℕ)
     → ((more : List Entry) → shown_by (map line_text raws) b.tree (entries ++ more) ≡ option_map (put_before text) (shown_at_end more))
     → (more : List Entry) → shown_by (map line_text (p.raws ++ raws)) a.tree ((p.entries ++ entries) ++ more)
-      ≡ option_map (put_before (p.text ++ text)) (shown_at_end more)
+    ≡ option_map (put_before (p.text ++ text)) (shown_at_end more)
 shown_done-after a b p raws entries text shown more =
     ap (λ l. shown_by l a.tree ((p.entries ++ entries) ++ more)) (map-append line_text p.raws raws)
     ∙ ap (shown_by (map line_text p.raws ++ map line_text raws) a.tree) (append_assoc p.entries entries more)
@@ -133,9 +133,9 @@ Posts-after a b steps sink done p q = record {
   reads = after_others a.ahead b.ahead p.raws q.raws (ComeFirst a b p.raws) (λ x y r. r.lines) p.reads q.reads;
   schedule = q.schedule ∙ ap (λ l. l ++ q.entries) p.schedule ∙ append_assoc a.schedule p.entries q.entries;
   written = subst (Appends a.written sink) (sym (take-append-add p.text q.text q.count))
-    (Appends-trans a.written b.written sink p.text (take q.count q.text) p.written q.written);
-  shown = ShowsText-after a b p done q.raws q.entries q.text q.shown
-  }
+      (Appends-trans a.written b.written sink p.text (take q.count q.text) p.written q.written);
+  shown = ShowsText-after a b p done q.raws q.entries q.text q.shown;
+}
 
 -- serving stops for the same reason, seen from an earlier moment
 pub Stops-after : (a b : Moment) (steps : List Entry) (sink left : Option (List ℕ)) (why : FaultNote)
@@ -143,9 +143,19 @@ pub Stops-after : (a b : Moment) (steps : List Entry) (sink left : Option (List 
 Stops-after a b steps sink left fault.NoMemory p q = Posts-after a b steps sink false p q
 Stops-after a b steps sink left fault.Usage p q = q
 Stops-after a b steps sink left (fault.BadDeck line) p q = record {
-  now = q.now; serves = Serves-then a b q.now p q.serves; schedule = q.schedule; written = q.written; line = q.line; bad = q.bad
-  }
+  now = q.now;
+  serves = Serves-then a b q.now p q.serves;
+  schedule = q.schedule;
+  written = q.written;
+  line = q.line;
+  bad = q.bad;
+}
 Stops-after a b steps sink left fault.ReadFault p q = record {
-  now = q.now; serves = Serves-then a b q.now p q.serves; schedule = q.schedule; written = q.written; unended = q.unended; breaks = q.breaks
-  }
+  now = q.now;
+  serves = Serves-then a b q.now p q.serves;
+  schedule = q.schedule;
+  written = q.written;
+  unended = q.unended;
+  breaks = q.breaks;
+}
 Stops-after a b steps sink left fault.WriteFault p q = Posts-after a b steps sink true p q

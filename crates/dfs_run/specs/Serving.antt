@@ -55,9 +55,14 @@ pub record Moment : Type 0 where
 -- the moment of a reader, a tree and a schedule, where the source has these bytes left and the sink holds those
 abbrev pub moment_of : ReaderState → Tree → List Entry → Option (List ℕ) → Option (List ℕ) → Moment
 moment_of reader tree schedule left written = record {
-  number = reader.number; size = reader.size; at_end = reader.at_end; ahead = ahead reader left;
-  tree = tree; schedule = schedule; written = written
-  }
+  number = reader.number;
+  size = reader.size;
+  at_end = reader.at_end;
+  ahead = ahead reader left;
+  tree = tree;
+  schedule = schedule;
+  written = written;
+}
 
 -- a reader that saw the end of the input has a source with nothing left
 abbrev pub KnowsEnd : ReaderState → Option (List ℕ) → Type 0
@@ -66,8 +71,14 @@ KnowsEnd reader left = reader.at_end ≡ true → IsAtEnd left
 -- before the first line
 abbrev pub opening_moment : Option (List ℕ) → Option (List ℕ) → Moment
 opening_moment left written = record {
-  number = 0; size = 0; at_end = false; ahead = prepend_known [] left; tree = opening_tree; schedule = []; written = written
-  }
+  number = 0;
+  size = 0;
+  at_end = false;
+  ahead = prepend_known [] left;
+  tree = opening_tree;
+  schedule = [];
+  written = written;
+}
 
 -- a fact of what was to come and of what is to come, where these are known
 abbrev pub WhereTold : Option (List ℕ) → Option (List ℕ) → (List ℕ → List ℕ → Type 0) → Type 0
@@ -98,7 +109,7 @@ pub record Serves (old new : Moment) : Type 0 where
   pub schedule : new.schedule ≡ old.schedule ++ entries
   pub written : Appends old.written new.written text
   pub shown : (later : List (List ℕ)) (more : List Entry) →
-    shown_by (map line_text raws ++ later) old.tree (entries ++ more) ≡ option_map (put_before text) (shown_by later new.tree more)
+      shown_by (map line_text raws ++ later) old.tree (entries ++ more) ≡ option_map (put_before text) (shown_by later new.tree more)
 
 -- the blocks of the lines are this text: all of them, whatever ends the schedule, or those that it finishes
 abbrev pub ShowsText : Bool → List (List ℕ) → Tree → List Entry → List ℕ → Type 0

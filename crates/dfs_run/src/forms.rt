@@ -5,11 +5,10 @@ ghost use Rattle.std.specs.List.{list_all};
 ghost use Rattle.vfs_base.specs.Name.{is_name};
 ghost use Rattle.vfs_model.specs.Line.{form_of, form_of_word, is_plain_byte, is_plain_name, is_printed_path, path_of};
 
+use crate::pieces::pieces;
 use std::alloc::Global;
 use vfs_base::{Bytes, List, Name, NoMemory, PATH_MAX, Path};
 use vfs_model::LineForm;
-
-use crate::pieces::pieces;
 
 /// What the line asks for.
 pub fn read_line(alloc: Global, line: &[u8]) -> Result<LineForm, NoMemory>
@@ -75,17 +74,18 @@ fn is_printed_form(alloc: Global, text: &[u8], path: &Path) -> Result<bool, NoMe
     ensures { IfOk result (λ is_printed. is_printed ≡ is_printed_path text.now path.now) }
 {
     let printed = path.print(alloc)?;
-    Ok(text.len() <= PATH_MAX
-        && is_plain_text(text)
-        && are_plain_names(path.as_names())
-        && printed.as_slice() == text)
+    Ok(
+        text.len() <= PATH_MAX
+            && is_plain_text(text)
+            && are_plain_names(path.as_names())
+            && printed.as_slice() == text,
+    )
 }
 
 fn is_plain_text(text: &[u8]) -> bool
     ensures { result ≡ list_all is_plain_byte text.now }
 {
-    text.iter()
-        .all(|byte| *byte != 0 && *byte != b'\t' && *byte != b' ' && *byte != b'"')
+    text.iter().all(|byte| *byte != 0 && *byte != b'\t' && *byte != b' ' && *byte != b'"')
 }
 
 fn are_plain_names(names: &[Name]) -> bool

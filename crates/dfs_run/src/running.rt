@@ -8,16 +8,15 @@ ghost use Rattle.dfs_run.specs.Headline.{is_closed, ShowsFront};
 ghost use Rattle.dfs_run.specs.Report.{status_of};
 ghost use Rattle.dfs_run.specs.Serving.{HasReason};
 
-use std::alloc::Global;
-use vfs_base::List;
-use vfs_outside::{Sink, Source};
-
 use crate::line_reader::LineReader;
 use crate::report::{FaultNote, Report};
 use crate::serving::serve_lines;
 use crate::shell::Shell;
 use crate::shown::print_schedule;
 use crate::writing::write_all;
+use std::alloc::Global;
+use vfs_base::List;
+use vfs_outside::{Sink, Source};
 
 /// Runs the lines of the source in a shell of its own.
 #[tactic(auto, using(crate::proofs::EndingLemmas::ends_front))]

@@ -7,14 +7,13 @@ ghost use Rattle.vfs_outside.specs.Causes.{StillTells};
 ghost use Rattle.dfs_run.specs.LineReader.{ahead, ReadsLine, ReadsEnd};
 ghost use Rattle.dfs_run.specs.Serving.{moment_of, KnowsEnd, Serves, ServesAll, Stops, StopsAtLine, StopsPosting, WritesBlock, HasReason};
 
-use std::alloc::Global;
-use vfs_base::Bytes;
-use vfs_outside::{Sink, Source};
-
 use crate::line_reader::{LineReader, ReadStop};
 use crate::report::FaultNote;
 use crate::shell::Shell;
 use crate::writing::write_all;
+use std::alloc::Global;
+use vfs_base::Bytes;
+use vfs_outside::{Sink, Source};
 
 /// Serves the lines of the source to its end: each is read, run, and its block written, before the
 /// next is awaited.

@@ -8,13 +8,12 @@ ghost use Rattle.vfs_model.specs.Transcript.Turn.{Finished};
 ghost use Rattle.vfs_model.specs.Tree.{opening_tree};
 ghost use Rattle.dfs_run.specs.Serving.{GivesUp, RunsLine, shutdown, steps_of};
 
-use std::alloc::Global;
-use vfs_base::{Bytes, Entry, List, Mark, NoMemory, Path, Reply, SessionId, Who};
-use vfs_model::LineForm;
-
 use crate::forms::read_line;
 use crate::shown::{bad_line_block, reply_block, start_block};
 use crate::tree::Tree;
+use std::alloc::Global;
+use vfs_base::{Bytes, Entry, List, Mark, NoMemory, Path, Reply, SessionId, Who};
+use vfs_model::LineForm;
 
 /// A shell's tree, and the steps that were taken on it.
 #[derive(Drop)]

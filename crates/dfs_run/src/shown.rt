@@ -6,7 +6,9 @@ ghost use Rattle.vfs_model.specs.Schedule.{schedule_line, entry_word};
 ghost use Rattle.vfs_model.specs.Shown.{bad_line_text, block, entry_line, error_text, listing_text, padding, reply_text};
 
 use std::alloc::Global;
-use vfs_base::{Bytes, Entry, Errno, List, ListEntry, NoMemory, Path, Reply, copy_bytes, push_printed};
+use vfs_base::{
+    Bytes, Entry, Errno, List, ListEntry, NoMemory, Path, Reply, copy_bytes, push_printed,
+};
 
 /// The prompt, the line and a line feed: a block without a text.
 pub fn start_block(alloc: Global, line: &[u8]) -> Result<Bytes, NoMemory>
@@ -54,7 +56,10 @@ fn push_reply(out: &mut Bytes, command: &str, path: &Path, reply: &Reply) -> Res
     ensures { OnOk result (out.new ≡ out.old ++ reply_text command.now path.now reply.now) }
 {
     match reply {
-        Reply::Listing { path: folder, entries } => push_listing(out, folder, entries.as_slice()),
+        Reply::Listing {
+            path: folder,
+            entries,
+        } => push_listing(out, folder, entries.as_slice()),
         Reply::Refused { errno } => push_error(out, command, path, *errno),
         _ => Ok(()),
     }

@@ -8,13 +8,12 @@ ghost use Rattle.dfs_run.specs.Headline.{ShowsPlainTree, ShowsFront, ShowsBlocks
 ghost use Rattle.dfs_run.specs.Report.{status_of};
 ghost use Rattle.dfs_run.specs.declared.report.FaultNote.TheVariants.{BadDeck};
 
-use std::alloc::Global;
-use vfs_base::List;
-use vfs_outside::{Devices, Sink, Source};
-
 use crate::mode::mode_of;
 use crate::report::{FaultNote, Report};
 use crate::running::run;
+use std::alloc::Global;
+use vfs_base::List;
+use vfs_outside::{Devices, Sink, Source};
 
 /// Runs the program on its words, those after its name: it reads the source, writes the sink, and
 /// reports how it ended. It waits for nobody and returns, whatever the source and the sink do.

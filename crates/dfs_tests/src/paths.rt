@@ -1,7 +1,7 @@
-use vfs_base::{Bytes, List, Name, NoMemory, Path, copy_bytes, push_printed};
 use std::alloc::Global;
 use std::collections::BTreeSet;
 use std::test::Fail;
+use vfs_base::{Bytes, List, Name, NoMemory, Path, copy_bytes, push_printed};
 
 fn name(alloc: Global, bytes: &[u8]) -> Result<Name, Fail> {
     let name = Name::from_bytes(copy_bytes(alloc, bytes)?);

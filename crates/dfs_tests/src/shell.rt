@@ -20,7 +20,13 @@ fn run(
     let mut words = Vec::new(alloc);
     words.push(String::from_str(alloc, "shell")?)?;
     let mut devices = Devices::new(alloc);
-    let report = top_alone(alloc, words.as_slice(), &mut source, &mut sink, &mut devices);
+    let report = top_alone(
+        alloc,
+        words.as_slice(),
+        &mut source,
+        &mut sink,
+        &mut devices,
+    );
     let written = sink.written().to_vec(alloc)?;
     Ok((report, written))
 }
@@ -89,7 +95,10 @@ fn lines_may_end_and_be_spaced_in_any_way(rt: HostRuntime) -> Result<(), Fail> {
         ("  ls   /  \n", "msh />  ls   /  \nDirectory /:\n# 1 z\n"),
         ("mkdir /\n", "msh />mkdir /\nmkdir: /: EEXIST\n# 1 z\n"),
         ("ls /x\n", "msh />ls /x\nls: /x: ENOENT\n# 1 z\n"),
-        ("mkdir /x/y\n", "msh />mkdir /x/y\nmkdir: /x/y: ENOENT\n# 1 z\n"),
+        (
+            "mkdir /x/y\n",
+            "msh />mkdir /x/y\nmkdir: /x/y: ENOENT\n# 1 z\n",
+        ),
         (
             "mkdir /b\nmkdir /a-\nmkdir /a\nmkdir /a/long-name-of-20-bytes\nls /\nls /a\n",
             "msh />mkdir /b\nmsh />mkdir /a-\nmsh />mkdir /a\nmsh />mkdir /a/long-name-of-20-bytes\n\
@@ -100,6 +109,111 @@ fn lines_may_end_and_be_spaced_in_any_way(rt: HostRuntime) -> Result<(), Fail> {
     ];
     for (input, output) in cases {
         shows(&rt, rt.alloc(), input, output)?;
+    }
+    Ok(())
+}
+
+#[test]
+fn read_and_write_faults_end_the_shell(rt: HostRuntime) -> Result<(), Fail> {
+    let alloc = rt.alloc();
+    let (report, written) = run(alloc, b"mkdir /a\n", vec![in alloc; 2]?, Vec::new(alloc))?;
+    assert_eq!(rt; written.as_slice(), b"msh />mkdir /a\n".as_slice());
+    assert_eq!(rt; report.status, 4);
+    assert_eq!(rt; report.fault, Some(FaultNote::ReadFault));
+    assert_eq!(rt; report.schedule.len(), 2);
+
+    let (report, written) = run(alloc, b"", Vec::new(alloc), vec![in alloc; 1]?)?;
+    assert_eq!(rt; written.len(), 0);
+    assert_eq!(rt; report.status, 5);
+    assert_eq!(rt; report.fault, Some(FaultNote::WriteFault));
+    assert_eq!(rt; report.schedule.len(), 1);
+
+    let (report, written) = run(alloc, b"ls /\nls /\n", Vec::new(alloc), vec![in alloc; 2]?)?;
+    assert_eq!(rt;
+        written.as_slice(),
+        b"msh />ls /\nDirectory /:\n".as_slice()
+    );
+    assert_eq!(rt; report.status, 5);
+    assert_eq!(rt; report.schedule.len(), 3);
+    Ok(())
+}
+
+#[test]
+fn a_line_that_is_too_long_is_named(rt: HostRuntime) -> Result<(), Fail> {
+    let alloc = rt.alloc();
+    let cases = [
+        (1024, b"".as_slice(), None),
+        (1024, b"\n", None),
+        (1024, b"\r\n", None),
+        (1024, b"\r", Some(2)),
+        (1025, b"", Some(2)),
+        (1025, b"\n", Some(2)),
+        (3000, b"\nls /\n", Some(2)),
+    ];
+    for (length, end, line) in cases {
+        let mut input = b"mkdir /a\n".to_vec(alloc)?;
+        input.extend_from_slice(vec![in alloc; b'x'; length]?.as_slice())?;
+        input.extend_from_slice(end)?;
+        let (report, written) = run(alloc, input.as_slice(), Vec::new(alloc), Vec::new(alloc))?;
+        let fault = line.map(|line| FaultNote::BadDeck { line });
+        assert_eq!(rt; report.fault, fault, "{length} bytes and {end:?}");
+        if fault.is_some() {
+            assert_eq!(rt; report.status, 3);
+            assert_eq!(rt; written.as_slice(), b"msh />mkdir /a\n".as_slice());
+            assert_eq!(rt; report.schedule.len(), 2);
+        }
+    }
+    Ok(())
+}
+
+#[test]
+fn the_byte_after_the_greatest_size_is_too_many(rt: HostRuntime) -> Result<(), Fail> {
+    let alloc = rt.alloc();
+    let mut line = vec![in alloc; b' '; 1023]?;
+    line.push(b'\n')?;
+    let mut input = Vec::new(alloc);
+    for _ in 0..16384 {
+        input.extend_from_slice(line.as_slice())?;
+    }
+    let (report, written) = run(alloc, input.as_slice(), Vec::new(alloc), Vec::new(alloc))?;
+    assert_eq!(rt; report.status, 0);
+    let whole = written.len();
+
+    input.push(b'\n')?;
+    let (report, written) = run(alloc, input.as_slice(), Vec::new(alloc), Vec::new(alloc))?;
+    assert_eq!(rt; report.fault, Some(FaultNote::BadDeck { line: 16385 }));
+    assert_eq!(rt; written.len() + b"# z\n".len(), whole);
+    Ok(())
+}
+
+#[test]
+fn words_but_shell_are_outside_the_grammar(rt: HostRuntime) -> Result<(), Fail> {
+    let alloc = rt.alloc();
+    let cases: [&[&str]; 5] = [
+        &[],
+        &["shell", "shell"],
+        &["replay"],
+        &["--help"],
+        &["shell", "--seed", "7"],
+    ];
+    for case in cases {
+        let mut words = Vec::new(alloc);
+        for word in case {
+            words.push(String::from_str(alloc, word)?)?;
+        }
+        let mut source = MemSource::new(alloc, Vec::new(alloc), Vec::new(alloc));
+        let mut sink = MemSink::new(alloc, Vec::new(alloc));
+        let mut devices = Devices::new(alloc);
+        let report = top_alone(
+            alloc,
+            words.as_slice(),
+            &mut source,
+            &mut sink,
+            &mut devices,
+        );
+        assert_eq!(rt; report.status, 2);
+        assert_eq!(rt; report.fault, Some(FaultNote::Usage));
+        assert_eq!(rt; sink.written().len(), 0);
     }
     Ok(())
 }

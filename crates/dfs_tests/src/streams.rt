@@ -1,7 +1,7 @@
-use vfs_outside::{Devices, Failed, MemSink, MemSource, Sink, Source, StdSink, StdSource};
 use std::alloc::{AllocError, Global};
 use std::test::Fail;
 use vfs_base::Bytes;
+use vfs_outside::{Devices, Failed, MemSink, MemSource, Sink, Source, StdSink, StdSource};
 
 fn pieces(alloc: Global, texts: &[&[u8]]) -> Result<Vec<Bytes>, AllocError> {
     let mut pieces = Vec::new(alloc);

@@ -1,16 +1,13 @@
 //! What is told of devices: their shapes, their counts, and what a volume keeps.
 
-
-
 ghost use Rattle.std.specs.Prelude.{◌≡◌, ℕ, ◌≤◌, ◌&&◌, nat_le, if◌then◌else◌};
-
-use std::collections::BTreeMap;
-use std::marker::Model;
 
 use crate::limits::CELL_PAGES_MAX;
 use crate::list::{Bytes, List};
 use crate::name::Name;
 use crate::path::Path;
+use std::collections::BTreeMap;
+use std::marker::Model;
 
 /// The devices that are handed in, in their order. All names are different.
 #[derive(Debug, Drop)]
@@ -87,7 +84,11 @@ pub enum CellNode {
     Dir,
     /// A file: the cell that it occupies, its number of bytes, and its stored pages. Bit i says that
     /// page i was written since the cell was taken for the file.
-    File { cell: u16, size: u64, stored: [u64; 16] },
+    File {
+        cell: u16,
+        size: u64,
+        stored: [u64; 16],
+    },
 }
 
 /// What a volume keeps while it is not mounted: what stands at each path.

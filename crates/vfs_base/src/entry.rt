@@ -4,11 +4,10 @@ ghost use Rattle.std.specs.Prelude.{◌≡◌, OnOk, ◌++◌};
 ghost use Rattle.std.specs.Fmt.{decimal};
 ghost use Rattle.vfs_base.specs.Entry.{mark_text, who_text};
 
-use std::alloc::Global;
-
 use crate::ids::{RowId, SessionId};
 use crate::list::Bytes;
 use crate::no_memory::NoMemory;
+use std::alloc::Global;
 
 /// How a step came out.
 #[derive(Clone, Copy, Debug, PartialEq, Eq)]

@@ -2,9 +2,8 @@
 
 ghost use Rattle.std.specs.Prelude.{◌≡◌, ℕ, ◌≤◌, ◌<◌, ◌&&◌, nat_le, nat_lt, if◌then◌else◌};
 
-use std::marker::Model;
-
 use crate::limits::{MOUNTS, ROWS, SESSIONS};
+use std::marker::Model;
 
 /// The number of a session, 1 to 8.
 #[derive(Clone, Copy, Debug, PartialEq, Eq, PartialOrd, Ord)]

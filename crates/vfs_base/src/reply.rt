@@ -13,31 +13,61 @@ pub enum Reply {
     /// The step was taken, and there is nothing to tell.
     Done,
     /// The file is open under this reference.
-    Opened { hold: HoldId, file: FileId, kind: Kind },
+    Opened {
+        hold: HoldId,
+        file: FileId,
+        kind: Kind,
+    },
     /// The file is mapped under this reference.
-    Held { hold: HoldId },
+    Held {
+        hold: HoldId,
+    },
     /// What stands at the path.
-    Node { node: NodeKind },
+    Node {
+        node: NodeKind,
+    },
     /// The folder's path, and what is in it, in byte order of the names.
-    Listing { path: Path, entries: List<ListEntry> },
+    Listing {
+        path: Path,
+        entries: List<ListEntry>,
+    },
     /// The session's working directory.
-    At { path: Path },
+    At {
+        path: Path,
+    },
     /// The bytes that were read.
-    Got { bytes: Bytes },
+    Got {
+        bytes: Bytes,
+    },
     /// The number of bytes that were written, and the offset behind the last of them.
-    Count { n: u64, end: u64 },
+    Count {
+        n: u64,
+        end: u64,
+    },
     /// The file's number of bytes.
-    SizeIs { size: u64 },
+    SizeIs {
+        size: u64,
+    },
     /// The mounts, in the order of mounting.
-    MountList { lines: List<MountLine> },
+    MountList {
+        lines: List<MountLine>,
+    },
     /// The holders of paths in byte order, then of files without a name by vnode slot.
-    Holders { lines: List<HolderLine> },
+    Holders {
+        lines: List<HolderLine>,
+    },
     /// The linked files of cell mounts, by vnode slot.
-    Files { files: List<FileId> },
+    Files {
+        files: List<FileId>,
+    },
     /// Volumes, then character devices, then roms, each in the order handed in.
-    DeviceList { lines: List<DeviceLine> },
+    DeviceList {
+        lines: List<DeviceLine>,
+    },
     /// The step was refused.
-    Refused { errno: Errno },
+    Refused {
+        errno: Errno,
+    },
 }
 
 /// A name in a folder, and what stands there.

@@ -9,35 +9,65 @@ use crate::list::Bytes;
 #[derive(Debug, Drop)]
 pub enum Step {
     /// What stands at a path (POSIX.1-2017, stat).
-    Stat { path: Bytes },
+    Stat {
+        path: Bytes,
+    },
     /// Opens a file (POSIX.1-2017, open).
-    Open { path: Bytes, flags: OpenFlags },
+    Open {
+        path: Bytes,
+        flags: OpenFlags,
+    },
     /// Gives up an open file (POSIX.1-2017, close).
-    Close { hold: HoldId },
+    Close {
+        hold: HoldId,
+    },
     /// Makes a folder (POSIX.1-2017, mkdir).
-    Mkdir { path: Bytes },
+    Mkdir {
+        path: Bytes,
+    },
     /// Removes an empty folder (POSIX.1-2017, rmdir).
-    Rmdir { path: Bytes },
+    Rmdir {
+        path: Bytes,
+    },
     /// Removes the name of a file (POSIX.1-2017, unlink).
-    Unlink { path: Bytes },
+    Unlink {
+        path: Bytes,
+    },
     /// Moves a file, or a folder with all below it (POSIX.1-2017, rename).
-    Rename { old: Bytes, new: Bytes },
+    Rename {
+        old: Bytes,
+        new: Bytes,
+    },
     /// The names in a folder.
-    List { path: Bytes },
+    List {
+        path: Bytes,
+    },
     /// Makes a folder the session's working directory (POSIX.1-2017, chdir).
-    Chdir { path: Bytes },
+    Chdir {
+        path: Bytes,
+    },
     /// Makes `/` the session's working directory.
     Home,
     /// The session's working directory (POSIX.1-2017, getcwd).
     Cwd,
     /// Mounts a file system of the type that `fs` names on an empty folder.
-    Mount { source: Bytes, point: Bytes, fs: Bytes },
+    Mount {
+        source: Bytes,
+        point: Bytes,
+        fs: Bytes,
+    },
     /// Unmounts a file system that nothing uses.
-    Umount { point: Bytes },
+    Umount {
+        point: Bytes,
+    },
     /// Refers to an open file by a mapping (POSIX.1-2017, mmap, with shared pages).
-    Map { hold: HoldId },
+    Map {
+        hold: HoldId,
+    },
     /// Gives up a mapping (POSIX.1-2017, munmap).
-    Unmap { hold: HoldId },
+    Unmap {
+        hold: HoldId,
+    },
     /// The mounts, in the order of mounting.
     Mounts,
     /// How many holders each path has.
@@ -45,29 +75,61 @@ pub enum Step {
     /// The linked files of cell mounts.
     Cells,
     /// Takes all names from a volume that is not mounted.
-    Mkfs { name: Bytes },
+    Mkfs {
+        name: Bytes,
+    },
     /// The devices and the roms.
     Devices,
     /// The number of bytes of a file.
-    Size { file: FileId },
+    Size {
+        file: FileId,
+    },
     /// At most `len` bytes of a file from `off` (POSIX.1-2017, pread).
-    Read { file: FileId, off: u64, len: u64 },
+    Read {
+        file: FileId,
+        off: u64,
+        len: u64,
+    },
     /// Writes bytes into a file at `off` (POSIX.1-2017, pwrite).
-    Write { file: FileId, off: u64, bytes: Bytes },
+    Write {
+        file: FileId,
+        off: u64,
+        bytes: Bytes,
+    },
     /// Writes bytes at the end of a file (POSIX.1-2017, write with `O_APPEND`).
-    Append { file: FileId, bytes: Bytes },
+    Append {
+        file: FileId,
+        bytes: Bytes,
+    },
     /// Cuts a file to `len` bytes, or pads it with zeros (POSIX.1-2017, ftruncate).
-    Trunc { file: FileId, len: u64 },
+    Trunc {
+        file: FileId,
+        len: u64,
+    },
     /// Writes a file's dirty pages to its device (POSIX.1-2017, fsync).
-    Sync { file: FileId },
+    Sync {
+        file: FileId,
+    },
     /// Reads `len` bytes from `off` through a mapping.
-    Load { file: FileId, off: u64, len: u64 },
+    Load {
+        file: FileId,
+        off: u64,
+        len: u64,
+    },
     /// Writes bytes at `off` through a mapping.
-    Store { file: FileId, off: u64, bytes: Bytes },
+    Store {
+        file: FileId,
+        off: u64,
+        bytes: Bytes,
+    },
     /// The worker's write-back of a vnode slot's dirty pages.
-    Flush { row: RowId },
+    Flush {
+        row: RowId,
+    },
     /// The worker's eviction of a vnode slot's pages.
-    Reclaim { row: RowId },
+    Reclaim {
+        row: RowId,
+    },
     /// Writes everything back and unmounts everything.
     Shutdown,
 }
