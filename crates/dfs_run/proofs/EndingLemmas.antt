@@ -1,5 +1,5 @@
 -- A run ends as its serving ended.
-use Rattle.std.proofs.Common.{◌≡◌, ℕ, Bool, true, false, Option, Some, None, IfSome, List, [], ◌∷◌, ◌++◌, take, refl, sym, ap, ◌∙◌, subst, arith}
+use Rattle.std.proofs.Common.{◌≡◌, ℕ, true, false, Option, Some, None, IfSome, List, [], ◌∷◌, ◌++◌, take, refl, sym, ap, ◌∙◌, subst, arith, is_some, inl, inr, if◌then◌else◌}
 use Rattle.std.specs.Io.KnownBytes.{Appends, prepend_known}
 use Rattle.std.proofs.KnownBytes.{Appends-nil}
 use Rattle.vfs_model.specs.Script.{raw_lines}
@@ -9,10 +9,11 @@ use Rattle.dfs_run.specs.declared.report.FaultNote.{FaultNote}
 use Rattle.dfs_run.specs.declared.report.FaultNote.TheVariants as fault
 use Rattle.vfs_model.specs.Tree.{Tree, opening_tree}
 use Rattle.dfs_run.specs.LineReader.{ReaderState}
-use Rattle.dfs_run.specs.Serving.{Moment, moment_of, opening_moment, Serves, ServesAll, Posts, MeetsBadLine, MeetsReadFault, Stops, shutdown}
-use Rattle.dfs_run.specs.Headline.{ShowsFront, is_closed}
+use Rattle.dfs_run.specs.Serving.{Moment, moment_of, opening_moment, Serves, ServesAll, Posts, Stops, HasReason, shutdown}
+use Rattle.dfs_run.specs.Headline.{EndsByForm, ShowsFront, is_closed}
+use Rattle.vfs_outside.specs.Causes.{Rose}
 use Rattle.dfs_run.specs.Report.{status_of}
-use Rattle.dfs_run.specs.Ending.{Ends, ClosesSchedule, StopsWith, WritesSchedule}
+use Rattle.dfs_run.specs.Ending.{Ends, ClosesSchedule, StopsWith}
 use Rattle.dfs_run.proofs.HeadlineLemmas.{served_posts, Posts-unended, front_unended, front_whole, ends_well, ends_at_schedule, ends_at_bad_line, ends_at_read_fault}
 
 -- served lines are posted, where the schedule and the sink are those of the moment
@@ -95,3 +96,18 @@ ends_front (Some input) left steps before now (Some fault.Usage) e = absurd e
 ends_front (Some input) left steps before now (Some (fault.BadDeck line)) e = e.front
 ends_front (Some input) left steps before now (Some fault.ReadFault) e = e.front
 ends_front (Some input) left steps before now (Some fault.WriteFault) e = e
+
+-- where nothing failed a run ends by the form of its input, or for want of memory
+pub ends_by_form : (old left : Option (List ℕ)) (steps : List Entry) (before now : Option (List ℕ)) (why : Option FaultNote)
+    (status reads_before reads_now writes_before writes_now : ℕ) → status ≡ status_of why → Ends old left steps before now why
+    → IfSome why (HasReason reads_before reads_now writes_before writes_now)
+    → (Rose reads_before reads_now → ⊥) → (Rose writes_before writes_now → ⊥) → IfSome old (λ input. EndsByForm input status)
+ends_by_form None left steps before now why status a b c d s e h r w = tt
+ends_by_form (Some input) left steps before now None status a b c d s e h r w =
+    inr (s ∙ ap (λ found. if is_some found then 3 else 0) (sym e.form))
+ends_by_form (Some input) left steps before now (Some fault.NoMemory) status a b c d s e h r w = inl s
+ends_by_form (Some input) left steps before now (Some fault.Usage) status a b c d s e h r w = absurd e
+ends_by_form (Some input) left steps before now (Some (fault.BadDeck line)) status a b c d s e h r w =
+    inr (s ∙ ap (λ found. if is_some found then 3 else 0) (sym e.form))
+ends_by_form (Some input) left steps before now (Some fault.ReadFault) status a b c d s e h r w = absurd (r h)
+ends_by_form (Some input) left steps before now (Some fault.WriteFault) status a b c d s e h r w = absurd (w h)

@@ -1,18 +1,18 @@
 -- From the serving of lines to what a run shows of its input.
-use Rattle.std.proofs.Common.{◌≡◌, ℕ, ◌+◌, ◌-◌, ◌≤◌, Bool, true, false, Option, Some, None, IfSome, option_map, unwrap_or, if◌then◌else◌, List, [], ◌∷◌, ◌++◌, length, suc, take, map, refl, sym, ap, ◌∙◌, subst, append_assoc, append-nil, arith, length-append, zero-add}
+use Rattle.std.proofs.Common.{◌≡◌, ℕ, ◌+◌, ◌-◌, true, false, Option, Some, None, IfSome, option_map, unwrap_or, if◌then◌else◌, List, [], ◌∷◌, ◌++◌, length, suc, take, map, refl, sym, ap, ◌∙◌, subst, append_assoc, append-nil, arith}
 use Rattle.std.specs.List.{concat}
-use Rattle.std.specs.Io.KnownBytes.{Appends, prepend_known}
-use Rattle.std.proofs.KnownBytes.{Appends-trans, Appends-nil}
+use Rattle.std.specs.Io.KnownBytes.{Appends}
+use Rattle.std.proofs.KnownBytes.{Appends-trans}
 use Rattle.std.proofs.Math.Seq.{take-append_seam, take-append-add, take-length}
 use Rattle.std.proofs.lemmas.List.{take-append-le}
 use Rattle.vfs_base.specs.declared.entry.Entry.{Entry}
 use Rattle.vfs_model.specs.Schedule.{schedule_line}
-use Rattle.vfs_model.specs.Script.{raw_lines, line_text, whole_lines, is_bad_line, first_bad_from, first_bad_line, input_lines}
-use Rattle.vfs_model.specs.Transcript.{Shown, put_before, shown_by, shown_at_end, shell_shown, transcript_text}
+use Rattle.vfs_model.specs.Script.{raw_lines, line_text, whole_lines, first_bad_from, first_bad_line, input_lines}
+use Rattle.vfs_model.specs.Transcript.{shown_by, shell_shown}
 use Rattle.vfs_model.specs.Tree.{Tree, opening_tree}
-use Rattle.dfs_run.specs.Serving.{Moment, opening_moment, WhereTold, ComeFirst, AreWhole, Serves, ShowsText, Posts, MeetsBadLine, MeetsReadFault, BreaksOff, shutdown}
+use Rattle.dfs_run.specs.Serving.{Moment, opening_moment, WhereTold, ComeFirst, Serves, ShowsText, Posts, MeetsBadLine, MeetsReadFault, BreaksOff, shutdown}
 use Rattle.dfs_run.specs.LineReader.{BeginsBad}
-use Rattle.dfs_run.specs.Headline.{ShowsPlainTree, ShowsFront, ShowsBlocks, ShowsLinesRead, lines_in_form}
+use Rattle.dfs_run.specs.Headline.{ShowsFront, ShowsBlocks, ShowsLinesRead, lines_in_form}
 use Rattle.dfs_run.specs.Ending.{EndsWell, EndsAtBadLine, EndsAtReadFault}
 use Rattle.dfs_run.proofs.ServingLemmas.{map-append}
 

@@ -1,19 +1,18 @@
 -- One line more is served, or stops the serving.
-use Rattle.std.proofs.Common.{◌≡◌, ℕ, ◌+◌, ◌<◌, ◌≤◌, Bool, true, false, Option, Some, None, IfSome, option_map, List, [], ◌∷◌, ◌++◌, length, take, map, refl, sym, ap, ◌∙◌, subst, append-nil, arith}
-use Rattle.std.specs.List.{concat}
+use Rattle.std.proofs.Common.{◌≡◌, ℕ, ◌+◌, Bool, true, false, Option, Some, None, IfSome, option_map, List, [], ◌∷◌, ◌++◌, length, refl, sym, ap, ◌∙◌, subst, append-nil, arith}
 use Rattle.std.specs.Io.KnownBytes.{Appends, Consumes, IsAtEnd}
 use Rattle.std.proofs.KnownBytes.{Appends-nil}
 use Rattle.vfs_base.specs.declared.entry.Entry.{Entry}
-use Rattle.vfs_model.specs.Script.{raw_lines, line_text, whole_lines, is_ended, first_bad_from}
-use Rattle.vfs_model.specs.Transcript.{Shown, put_before, shown_by, shown_at_end, shown_after, take_line}
+use Rattle.vfs_model.specs.Script.{raw_lines, line_text, whole_lines, first_bad_from}
+use Rattle.vfs_model.specs.Transcript.{put_before, shown_by, shown_after, take_line}
 use Rattle.vfs_model.specs.Transcript.Turn.{Finished}
 use Rattle.vfs_model.specs.Tree.{Tree}
 use Rattle.dfs_run.specs.declared.report.FaultNote.{FaultNote}
 use Rattle.dfs_run.specs.declared.report.FaultNote.TheVariants as fault
-use Rattle.dfs_run.specs.LineReader.{ReaderState, ahead, ReadsLine, ReadsEnd, TakesLine, BeginsBad, StopsInLine}
-use Rattle.dfs_run.specs.Serving.{Moment, moment_of, KnowsEnd, WhereTold, ComeFirst, AreWhole, Serves, ServesAll, ShowsText, Posts, MeetsBadLine, MeetsReadFault, BreaksOff, Stops, StopsAtLine, StopsPosting, RunsLine, GivesUp, WritesFront, WritesBlock}
+use Rattle.dfs_run.specs.LineReader.{ReaderState, ahead, ReadsLine, TakesLine}
+use Rattle.dfs_run.specs.Serving.{Moment, moment_of, WhereTold, ComeFirst, Serves, ServesAll, BreaksOff, Stops, StopsAtLine, StopsPosting, WritesBlock}
 use Rattle.dfs_run.proofs.ScriptLemmas.{first_bad_from-next, whole_lines-front}
-use Rattle.dfs_run.proofs.ServingLemmas.{Serves-refl, Serves-then, Stops-after}
+use Rattle.dfs_run.proofs.ServingLemmas.{Serves-refl, Serves-then}
 
 -- what is known of the next line, as the served lines say it
 told_line : (old new : Moment) (raw : List ℕ) (before after : Option (List ℕ)) → new.number ≡ old.number + 1 → new.size ≡ old.size + length raw

@@ -1,16 +1,15 @@
 -- Serving lines goes on from where it came to.
-use Rattle.std.proofs.Common.{◌≡◌, ℕ, ◌+◌, ◌≤◌, Bool, true, false, Option, Some, None, IfSome, option_map, List, [], ◌∷◌, ◌++◌, length, take, map, refl, sym, ap, ◌∙◌, subst, append_assoc, append-nil, arith, length-append}
+use Rattle.std.proofs.Common.{◌≡◌, ℕ, ◌+◌, Bool, true, false, Option, Some, None, IfSome, option_map, List, [], ◌∷◌, ◌++◌, length, take, map, refl, sym, ap, ◌∙◌, subst, append_assoc, append-nil, arith, length-append}
 use Rattle.std.specs.List.{concat}
 use Rattle.std.specs.Io.KnownBytes.{Appends}
 use Rattle.std.proofs.KnownBytes.{Appends-trans, Appends-nil}
 use Rattle.vfs_base.specs.declared.entry.Entry.{Entry}
-use Rattle.vfs_model.specs.Script.{raw_lines, line_text, whole_lines, first_bad_from}
+use Rattle.vfs_model.specs.Script.{raw_lines, line_text, whole_lines}
 use Rattle.vfs_model.specs.Transcript.{Shown, put_before, shown_by, shown_at_end}
-use Rattle.vfs_model.specs.Tree.{Tree}
 use Rattle.std.proofs.Math.Seq.{take-append-add}
 use Rattle.dfs_run.specs.declared.report.FaultNote.{FaultNote}
 use Rattle.dfs_run.specs.declared.report.FaultNote.TheVariants as fault
-use Rattle.dfs_run.specs.Serving.{Moment, WhereTold, ComeFirst, AreWhole, Serves, ShowsText, Posts, MeetsBadLine, MeetsReadFault, Stops, GivesUp}
+use Rattle.dfs_run.specs.Serving.{Moment, WhereTold, ComeFirst, AreWhole, Serves, ShowsText, Posts, Stops}
 
 -- two facts of what is told, one after the other
 pub WhereTold-then : (a b c : Option (List ℕ)) (P Q R : List ℕ → List ℕ → Type 0)

@@ -1,5 +1,5 @@
 -- What a run of the shell shows of its input, by the steps that it reports.
-use Rattle.std.specs.Prelude.{◌≡◌, ℕ, ◌-◌, ◌==◌, Bool, true, false, not, Option, Some, None, unwrap_or, option_map, List, [], ◌∷◌, ◌++◌, take, codes}
+use Rattle.std.specs.Prelude.{◌≡◌, ℕ, ◌-◌, ◌==◌, Bool, true, false, not, Option, Some, is_some, unwrap_or, option_map, List, [], ◌∷◌, ◌++◌, take, codes, ◌⊎◌, if◌then◌else◌}
 use Rattle.std.specs.Io.KnownBytes.{Appends}
 use Rattle.vfs_base.specs.declared.entry.Entry.{Entry}
 use Rattle.vfs_model.specs.Line.{same_text}
@@ -50,3 +50,7 @@ is_shell (word ∷ more ∷ words) = false
 -- the last step was taken: at each status of a run but want of memory
 abbrev pub is_closed : ℕ → Bool
 is_closed status = not (status == 1)
+
+-- how a run ends in which nothing failed: for want of memory, or by the form of the input
+abbrev pub EndsByForm : List ℕ → ℕ → Type 0
+EndsByForm input status = (status ≡ 1) ⊎ (status ≡ (if is_some (first_bad_line input) then 3 else 0))

@@ -2,9 +2,10 @@
 
 ghost use Rattle.std.specs.Prelude.{◌≡◌, ◌∷◌, [], ◌++◌, IfNone, IfSome};
 ghost use Rattle.std.specs.Io.KnownBytes.{IsAtEnd};
+ghost use Rattle.vfs_outside.specs.Causes.{Rose};
 ghost use Rattle.vfs_model.specs.Tree.{opening_tree};
 ghost use Rattle.dfs_run.specs.Ending.{ClosesSchedule, Ends, StopsWith};
-ghost use Rattle.dfs_run.specs.Headline.{is_closed, ShowsFront};
+ghost use Rattle.dfs_run.specs.Headline.{EndsByForm, is_closed, ShowsFront};
 ghost use Rattle.dfs_run.specs.Report.{status_of};
 ghost use Rattle.dfs_run.specs.Serving.{HasReason};
 
@@ -19,11 +20,13 @@ use vfs_base::List;
 use vfs_outside::{Sink, Source};
 
 /// Runs the lines of the source in a shell of its own.
-#[tactic(auto, using(crate::proofs::EndingLemmas::ends_front))]
+#[tactic(auto, using(crate::proofs::EndingLemmas::ends_front, crate::proofs::EndingLemmas::ends_by_form))]
 pub fn run<S: Source, K: Sink>(alloc: Global, source: &mut S, sink: &mut K) -> Report
     ensures ends { Ends (S.left source.old) (S.left source.new) result.schedule (K.written sink.old) (K.written sink.new) result.fault }
     ensures front { IfSome (S.left source.old) (λ input.
         ShowsFront (is_closed result.status) input result.schedule (K.written sink.old) (K.written sink.new)) }
+    ensures by_form { ¬ Rose (S.faults source.old) (S.faults source.new) → ¬ Rose (K.faults sink.old) (K.faults sink.new)
+        → IfSome (S.left source.old) (λ input. EndsByForm input result.status) }
     ensures status { result.status ≡ status_of result.fault }
     ensures over { IfNone result.fault (IsAtEnd (S.left source.new)) }
     ensures quiet { IfNone result.fault ((S.faults source.new ≡ S.faults source.old) × (K.faults sink.new ≡ K.faults sink.old)) }

@@ -1,10 +1,10 @@
 //! The top call.
 
-ghost use Rattle.std.specs.Prelude.{◌≡◌, ◌≢◌, ◌↔◌, ◌≤◌, ◌⊎◌, Some, None, [], false, true, IfSome, map, option_map, string_bytes};
+ghost use Rattle.std.specs.Prelude.{◌≡◌, ◌≢◌, ◌↔◌, None, [], false, true, IfSome, map, option_map, string_bytes};
 ghost use Rattle.std.specs.Io.KnownBytes.{IsAtEnd};
 ghost use Rattle.vfs_outside.specs.Causes.{Rose};
 ghost use Rattle.vfs_model.specs.Script.{first_bad_line};
-ghost use Rattle.dfs_run.specs.Headline.{ShowsPlainTree, ShowsFront, ShowsBlocks, ShowsLinesRead, lines_in_form, is_closed, is_shell};
+ghost use Rattle.dfs_run.specs.Headline.{ShowsPlainTree, ShowsFront, ShowsBlocks, ShowsLinesRead, EndsByForm, lines_in_form, is_closed, is_shell};
 ghost use Rattle.dfs_run.specs.Report.{status_of};
 ghost use Rattle.dfs_run.specs.declared.report.FaultNote.TheVariants.{BadDeck};
 
@@ -64,7 +64,7 @@ pub fn top_alone<S: Source, K: Sink>(
         → (S.faults source.new ≡ S.faults source.old) × (K.faults sink.new ≡ K.faults sink.old) }
     ensures complete { is_shell (map string_bytes words.now) ≡ true
         → ¬ Rose (S.faults source.old) (S.faults source.new) → ¬ Rose (K.faults sink.old) (K.faults sink.new)
-        → IfSome (S.left source.old) (λ input. first_bad_line input ≡ None → result.status ≤ 1) }
+        → IfSome (S.left source.old) (λ input. EndsByForm input result.status) }
     ensures devices { devices.new ≡ devices.old }
 {
     let _ = &devices;

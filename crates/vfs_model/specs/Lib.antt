@@ -4,3 +4,4 @@ pub mod Script
 pub mod Shown
 pub mod Transcript
 pub mod Tree
+pub mod Words

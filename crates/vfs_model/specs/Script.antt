@@ -1,5 +1,5 @@
 -- The lines of an input, and the first that is outside the form.
-use Rattle.std.specs.Prelude.{ℕ, ◌+◌, ◌-◌, ◌==◌, ◌||◌, Bool, nat_lt, Option, Some, None, List, [], ◌∷◌, ◌++◌, length, take, map, filter, slice_index, if◌then◌else◌}
+use Rattle.std.specs.Prelude.{ℕ, ◌+◌, ◌-◌, ◌==◌, ◌||◌, Bool, nat_lt, Option, Some, None, List, [], ◌∷◌, length, take, map, filter, slice_index, if◌then◌else◌}
 
 -- the byte put in front of the first line
 abbrev pub onto_first : ℕ → List (List ℕ) → List (List ℕ)

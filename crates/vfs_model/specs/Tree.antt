@@ -1,5 +1,5 @@
 -- The plain tree of folders, and the steps on it.
-use Rattle.std.specs.Prelude.{ℕ, ◌-◌, ◌==◌, Bool, true, false, not, ◌&&◌, nat_lt, is_some, Option, Some, None, unwrap_or, List, [], ◌∷◌, ◌++◌, length, take, map, slice_index_or, if◌then◌else◌}
+use Rattle.std.specs.Prelude.{ℕ, ◌-◌, ◌==◌, Bool, true, not, ◌&&◌, nat_lt, is_some, Option, Some, None, unwrap_or, List, [], ◌∷◌, ◌++◌, length, take, map, slice_index_or, if◌then◌else◌}
 use Rattle.std.specs.Cmp.Lexicographic.{slice_cmp}
 use Rattle.std.specs.Ordering.{nat_cmp}
 use Rattle.std.specs.BTreeMap.{insert_entry, is_at}

@@ -1,5 +1,4 @@
 use Rattle.std.proofs.Common.{refl}
-use Rattle.dfs_run.specs.Serving.{moment_of}
 use Rattle.dfs_run.proofs.ServingLemmas.{Serves-refl, Stops-after}
 use Rattle.dfs_run.proofs.serving.serve_lines.Goals as goal
 
