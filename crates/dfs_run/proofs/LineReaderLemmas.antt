@@ -2,8 +2,8 @@
 use Rattle.std.proofs.Common.{◌≡◌, ◌≢◌, ℕ, ◌+◌, ◌-◌, ◌<◌, ◌≤◌, nat_lt, true, false, Option, Some, None, Result, Ok, Err, IfOk, IfSome, List, [], ◌∷◌, ◌++◌, length, drop, slice_range, refl, sym, ap, ◌∙◌, arith, append_assoc, append-nil, length-append, length-take, drop-drop, subst, le-ltb, lt-ltb, ltb-false, if◌then◌else◌}
 use Rattle.std.proofs.lemmas.Bool.{both_ways, or_from, or_left, or_right, or_parts}
 use Rattle.std.proofs.lemmas.List.{drop-take}
-use Rattle.std.proofs.lemmas.List.Elements.{All-append, All-nil}
-use Rattle.std.proofs.KnownBytes.{Consumes-nil, Consumes-kept, Consumes-trans, prepend_known-nil}
+use Rattle.std.proofs.lemmas.List.Elements.{All-append}
+use Rattle.std.proofs.KnownBytes.{Consumes-kept, Consumes-trans, prepend_known-nil}
 use Rattle.std.specs.Io.KnownBytes.{Consumes, Keeps, prepend_known}
 use Rattle.vfs_model.specs.Script.{raw_lines, without_return, is_bad_line, line_text}
 use Rattle.dfs_run.specs.declared.line_reader.ReadStop.{ReadStop}
@@ -50,12 +50,7 @@ StopsAtBadLine-far size held part rest bytes none none' is BadLine far = λ more
     subst (BeginsBad size) joined begins
 StopsAtBadLine-far size held part rest bytes none none' is Failed far = far
 
--- a last line in the form, and one that isn't
-pub is_bad_line-unended : (size : ℕ) (held : List ℕ) → HasNoFeed held → length held ≤ 1024 → size + length held ≤ 16777216 → is_bad_line size held ≡ false
-is_bad_line-unended size held none short fits =
-    let text : nat_lt 1024 (length (line_text held)) ≡ false = rw (line_text-unended held none) (le-ltb 1024 (length held) short) in
-    or_from (nat_lt 1024 (length (line_text held))) (nat_lt 16777216 (size + length held)) text (le-ltb 16777216 (size + length held) fits)
-
+-- a last line that is too long
 pub BeginsBad-long : (size : ℕ) (held : List ℕ) → HasNoFeed held → 1024 < length held → BeginsBad size held
 BeginsBad-long size held none long =
     let text : nat_lt 1024 (length (line_text held)) ≡ true = rw (line_text-unended held none) (lt-ltb 1024 (length held) long) in
@@ -110,16 +105,6 @@ pub IfSome-begins : (P : List ℕ → Type 0) (before left : Option (List ℕ)) 
 IfSome-begins P None left held front consumes all = tt
 IfSome-begins P (Some bytes) None held front consumes all = absurd consumes
 IfSome-begins P (Some bytes) (Some more) held front consumes all = subst P (append_assoc held front more ∙ sym consumes) (all more)
-
-pub Holding-none : (first : ReaderState) (before : Option (List ℕ)) → Holding first first before before []
-Holding-none first before = record {
-  number = refl;
-  size = refl;
-  consumes = Consumes-nil (ahead first before);
-  unended = All-nil (λ b. b ≢ 10);
-  small = omega arith;
-  form = λ within. le-ltb 16777216 (first.size + 0) (omega arith);
-}
 
 pub Holding-filled : {first now mid : ReaderState} {before left after : Option (List ℕ)} {held : List ℕ} → Holding first now before left held → Fills now mid left after → Holding first mid before after held
 Holding-filled {first} {now} {mid} {before} {left} {after} {held} holding fills = record {

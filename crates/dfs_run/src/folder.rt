@@ -33,7 +33,7 @@ impl Folder {
         }
     }
 
-    /// Puts the name at its place, unless it is there. Where memory wants, the name is dropped.
+    /// Puts the name at its place, unless it is there. Where there is no memory, the name is dropped.
     pub fn insert(&mut self, name: Name) -> Result<(), NoMemory>
         ensures ok { OnOk result (self.new ≡ insert_key (slice_cmp nat_cmp) self.old name) }
         ensures err { OnErr result (self.new ≡ self.old) }

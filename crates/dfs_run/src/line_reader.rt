@@ -303,7 +303,8 @@ fn strip_return(line: &mut Bytes)
     line.truncate(len);
 }
 
-// These first bytes of a line, which come after `size` bytes, put it outside the form, whatever follows.
+// These first bytes of a line, which come after `size` bytes, put it outside the form, whatever
+// follows them.
 fn is_past_form(size: u64, held: &[u8]) -> bool
     requires held { length held.now ≤ 1025 }
     requires size { size ≤ 16777216 }

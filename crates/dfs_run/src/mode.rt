@@ -1,6 +1,6 @@
 //! The program's words.
 
-ghost use Rattle.std.specs.Prelude.{◌≡◌, ◌↔◌, true, false, OnOk, map, string_bytes, IsErrOf};
+ghost use Rattle.std.specs.Prelude.{◌≡◌, ◌↔◌, true, false, None, IfOk, OnOk, map, string_bytes, IsErrOf};
 ghost use Rattle.dfs_run.specs.Headline.{is_shell};
 
 use thiserror::Error;
@@ -32,6 +32,7 @@ pub enum ModeFault {
 /// The mode that the words name, those after the program's name: it is exactly the one word `shell`.
 pub fn mode_of(words: &[String]) -> Result<Mode, ModeFault>
     ensures ok { OnOk result (is_shell (map string_bytes words.now) ≡ true) }
+    ensures mode { IfOk result (λ mode. mode ≡ record { job = Job.Shell; image = None }) }
     ensures usage { IsErrOf result ModeFault.Usage ↔ (is_shell (map string_bytes words.now) ≡ false) }
 {
     match words {

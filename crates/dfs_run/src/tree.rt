@@ -1,5 +1,6 @@
 ghost use Rattle.std.specs.Prelude.{◌≡◌, true, false, [], IfOk, OnOk, OnErr, IfSome, is_some};
-ghost use Rattle.vfs_model.specs.Tree.{opening_tree, is_folder, walks_from, parent_of, last_name, with_name, with_folder, mkdir_step, list_step, under_mark};
+ghost use Rattle.vfs_model.specs.NormalPath.{parent_of};
+ghost use Rattle.vfs_model.specs.Tree.{opening_tree, is_folder, walks_from, last_name, with_name, with_folder, mkdir_step, list_step, under_mark};
 
 use crate::folder::Folder;
 use std::alloc::Global;
@@ -168,73 +169,5 @@ fn marked(taken: Result<Reply, NoMemory>) -> (Reply, Mark)
     match taken {
         Ok(reply) => (reply, Mark::Clear),
         Err(NoMemory) => (refused(Errno::ENOMEM), Mark::NoMem { n: 0 }),
-    }
-}
-
-#[cfg(test)]
-mod tests {
-    use super::*;
-    use std::test::Fail;
-    use vfs_base::{Bytes, copy_bytes};
-
-    #[derive(Clone, Copy)]
-    enum Verb {
-        Mkdir,
-        List,
-    }
-
-    fn path(alloc: Global, names: &[&str]) -> Result<Path, NoMemory> {
-        let mut path = Path::root(alloc);
-        for name in names {
-            if let Some(name) = Name::from_bytes(copy_bytes(alloc, name.as_bytes())?) {
-                path.push(name)?;
-            }
-        }
-        Ok(path)
-    }
-
-    fn shown(alloc: Global, reply: &Reply) -> Result<Bytes, NoMemory> {
-        let mut text = Bytes::new(alloc);
-        match reply {
-            Reply::Refused { errno } => text.extend_from_slice(errno.name().as_bytes())?,
-            Reply::Listing { path, entries } => {
-                text.extend_from_slice(path.print(alloc)?.as_slice())?;
-                for entry in entries.as_slice() {
-                    text.push(b' ')?;
-                    text.extend_from_slice(entry.name.as_bytes())?;
-                }
-            }
-            _ => text.extend_from_slice(b"done")?,
-        }
-        Ok(text)
-    }
-
-    #[test]
-    fn a_made_folder_is_listed_in_its_parent(rt: HostRuntime) -> Result<(), Fail> {
-        let alloc = rt.alloc();
-        let mut tree = Tree::new(alloc)?;
-        let none: &[&str] = &[];
-        let rows = [
-            (Verb::List, none, "/"),
-            (Verb::Mkdir, &["a"], "done"),
-            (Verb::Mkdir, &["a", "b"], "done"),
-            (Verb::Mkdir, &["Z"], "done"),
-            (Verb::List, none, "/ Z a"),
-            (Verb::List, &["a"], "/a b"),
-            (Verb::Mkdir, &["a"], "EEXIST"),
-            (Verb::Mkdir, none, "EEXIST"),
-            (Verb::Mkdir, &["x", "y"], "ENOENT"),
-            (Verb::List, &["x"], "ENOENT"),
-        ];
-        for (verb, names, want) in rows {
-            let path = path(alloc, names)?;
-            let (reply, mark) = match verb {
-                Verb::Mkdir => tree.mkdir(alloc, &path),
-                Verb::List => tree.list(alloc, &path),
-            };
-            assert_eq!(rt; mark, Mark::Clear);
-            assert_eq!(rt; shown(alloc, &reply)?.as_slice(), want.as_bytes());
-        }
-        Ok(())
     }
 }

@@ -1,4 +1,5 @@
 pub mod Line
+pub mod NormalPath
 pub mod Schedule
 pub mod Script
 pub mod Shown

@@ -1,11 +1,12 @@
 -- The plain tree of folders, and the steps on it.
-use Rattle.std.specs.Prelude.{ℕ, ◌-◌, ◌==◌, Bool, true, not, ◌&&◌, nat_lt, is_some, Option, Some, None, unwrap_or, List, [], ◌∷◌, ◌++◌, length, take, map, slice_index_or, if◌then◌else◌}
+use Rattle.std.specs.Prelude.{ℕ, ◌-◌, ◌==◌, Bool, true, not, ◌&&◌, nat_lt, is_some, Option, Some, None, unwrap_or, List, [], ◌∷◌, ◌++◌, length, map, slice_index_or, if◌then◌else◌}
 use Rattle.std.specs.Cmp.Lexicographic.{slice_cmp}
 use Rattle.std.specs.Ordering.{nat_cmp}
 use Rattle.std.specs.BTreeMap.{insert_entry, is_at}
 use Rattle.std.specs.BTreeSet.{insert_key}
 use Rattle.std.specs.Map.{lookup, set_value}
 use Rattle.vfs_base.specs.Path.{Path, path_cmp}
+use Rattle.vfs_model.specs.NormalPath.{parent_of}
 use Rattle.vfs_base.specs.declared.errno.Errno.{Errno}
 use Rattle.vfs_base.specs.declared.errno.Errno.TheVariants as errno
 use Rattle.vfs_base.specs.declared.entry.Mark.{Mark}
@@ -34,10 +35,6 @@ is_folder tree path = is_some (folder_at tree path)
 abbrev pub walks_from : Tree → Path → Path → Bool
 walks_from tree front [] = true
 walks_from tree front (name ∷ names) = is_folder tree front && walks_from tree (front ++ name ∷ []) names
-
--- the path of the folder in which the path's last name stands
-abbrev pub parent_of : Path → Path
-parent_of path = take (length path - 1) path
 
 -- the path's last name
 abbrev pub last_name : Path → List ℕ
