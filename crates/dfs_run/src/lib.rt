@@ -1,4 +1,9 @@
-//! The top calls: what the program does, from the bytes it reads to the bytes it writes.
+//! The top call: what the program does, from the bytes that it reads to the bytes that it writes.
+//!
+//! A contract sees what the source has left and what the sink holds, and says what was shown of the
+//! lines, by which steps, and why it ended: `top_alone` has the theorem.
+//! Reading lines, the loop over them, the shell and its tree are four things with one contract each;
+//! docs/MAP.md has the way of a line through them.
 #![tactic(auto)]
 
 mod folder;

@@ -14,7 +14,7 @@ fn shown(alloc: Global, words: &Words) -> Result<Bytes, NoMemory> {
 }
 
 #[test]
-fn a_line_is_its_words_or_a_fault(rt: HostRuntime) -> Result<(), Fail> {
+fn words_and_quotes(rt: HostRuntime) -> Result<(), Fail> {
     let table: [(&[u8], Result<&[u8], WordFault>); 12] = [
         (b"echo \"a b\"c d", Ok(b"echo|a bc|d|")),
         (b"\"\"", Ok(b"|")),

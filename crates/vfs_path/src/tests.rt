@@ -23,7 +23,7 @@ fn shown(alloc: Global, folder: &[u8], text: &[u8]) -> Result<Bytes, PathFault> 
 }
 
 #[test]
-fn a_text_names_a_path_or_has_a_fault(rt: HostRuntime) -> Result<(), Fail> {
+fn limits_of_names_and_paths(rt: HostRuntime) -> Result<(), Fail> {
     let alloc = rt.alloc();
     let table: [(&[u8], &[u8], Result<&[u8], PathFault>); 13] = [
         (b"/", b"", Err(PathFault::Empty)),
