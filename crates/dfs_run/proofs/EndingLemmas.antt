@@ -9,7 +9,8 @@ use Rattle.dfs_run.specs.declared.report.FaultNote.{FaultNote}
 use Rattle.dfs_run.specs.declared.report.FaultNote.TheVariants as fault
 use Rattle.vfs_model.specs.Tree.{Tree, opening_tree}
 use Rattle.dfs_run.specs.LineReader.{ReaderState}
-use Rattle.dfs_run.specs.Serving.{Moment, moment_of, opening_moment, Serves, ServesAll, Posts, Stops, HasReason, shutdown}
+use Rattle.dfs_run.specs.Serving.{Moment, moment_of, opening_moment, Serves, Posts, shutdown}
+use Rattle.dfs_run.specs.Stopping.{ServesAll, Stops, HasReason}
 use Rattle.dfs_run.specs.Headline.{EndsByForm, ShowsFront, is_closed}
 use Rattle.vfs_outside.specs.Causes.{Rose}
 use Rattle.dfs_run.specs.Report.{status_of}

@@ -9,7 +9,8 @@ use Rattle.vfs_model.specs.Transcript.{Shown, put_before, shown_by, shown_at_end
 use Rattle.std.proofs.Math.Seq.{take-append-add}
 use Rattle.dfs_run.specs.declared.report.FaultNote.{FaultNote}
 use Rattle.dfs_run.specs.declared.report.FaultNote.TheVariants as fault
-use Rattle.dfs_run.specs.Serving.{Moment, WhereTold, ComeFirst, AreWhole, Serves, ShowsText, Posts, Stops}
+use Rattle.dfs_run.specs.Serving.{Moment, WhereTold, ComeFirst, AreWhole, Serves, ShowsText, Posts}
+use Rattle.dfs_run.specs.Stopping.{Stops}
 
 -- two facts of what is told, one after the other
 pub WhereTold-then : (a b c : Option (List ℕ)) (P Q R : List ℕ → List ℕ → Type 0)

@@ -3,4 +3,5 @@ pub mod Headline
 pub mod LineReader
 pub mod Report
 pub mod Serving
+pub mod Stopping
 pub mod Writing

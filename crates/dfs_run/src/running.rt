@@ -7,7 +7,7 @@ ghost use Rattle.vfs_model.specs.Tree.{opening_tree};
 ghost use Rattle.dfs_run.specs.Ending.{ClosesSchedule, Ends, StopsWith};
 ghost use Rattle.dfs_run.specs.Headline.{EndsByForm, is_closed, ShowsFront};
 ghost use Rattle.dfs_run.specs.Report.{status_of};
-ghost use Rattle.dfs_run.specs.Serving.{HasReason};
+ghost use Rattle.dfs_run.specs.Stopping.{HasReason};
 
 use crate::line_reader::LineReader;
 use crate::report::{FaultNote, Report};

@@ -5,7 +5,8 @@ ghost use Rattle.std.specs.Bool.{OnFalse, OnTrue};
 ghost use Rattle.std.specs.Io.KnownBytes.{IsAtEnd};
 ghost use Rattle.vfs_outside.specs.Causes.{StillTells};
 ghost use Rattle.dfs_run.specs.LineReader.{ahead, ReadsLine, ReadsEnd};
-ghost use Rattle.dfs_run.specs.Serving.{moment_of, KnowsEnd, Serves, ServesAll, Stops, StopsAtLine, StopsPosting, WritesBlock, HasReason};
+ghost use Rattle.dfs_run.specs.Serving.{moment_of, KnowsEnd, Serves};
+ghost use Rattle.dfs_run.specs.Stopping.{ServesAll, Stops, StopsAtLine, StopsPosting, WritesBlock, HasReason};
 
 use crate::line_reader::{LineReader, ReadStop};
 use crate::report::FaultNote;

@@ -1,5 +1,5 @@
 use Rattle.std.proofs.Common.{subst}
-use Rattle.dfs_run.specs.Serving.{ServesAll, Stops}
+use Rattle.dfs_run.specs.Stopping.{ServesAll, Stops}
 use Rattle.dfs_run.proofs.EndingLemmas.{ends_closed, ends_stopped, opening_moment-of}
 use Rattle.dfs_run.proofs.running.run_shell.Goals as goal
 
