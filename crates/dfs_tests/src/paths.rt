@@ -1,5 +1,6 @@
 use std::alloc::Global;
 use std::collections::BTreeSet;
+use std::process::Abort;
 use std::test::Fail;
 use vfs_base::{Bytes, List, Name, NoMemory, Path, copy_bytes, push_printed};
 
@@ -16,26 +17,38 @@ fn path(alloc: Global, names: &[&[u8]]) -> Result<Path, Fail> {
     Ok(path)
 }
 
+// The next path is this one, and prints so.
+fn is_next(
+    rt: &impl Abort,
+    alloc: Global,
+    next: Option<&Path>,
+    text: &str,
+    names: &[&[u8]],
+) -> Result<(), Fail> {
+    let next = next.ok_or("a path is missing")?;
+    assert_eq!(rt; next.print(alloc)?.as_slice(), text.as_bytes());
+    assert_eq!(rt; next, &path(alloc, names)?, "at {text}");
+    Ok(())
+}
+
 #[test]
 fn paths_stand_in_the_order_of_their_printed_bytes(rt: HostRuntime) -> Result<(), Fail> {
-    let rows: [(&str, &[&[u8]]); 6] = [
-        ("/", &[]),
-        ("/a", &[b"a"]),
-        ("/a-b", &[b"a-b"]),
-        ("/a/a-b", &[b"a", b"a-b"]),
-        ("/a/b", &[b"a", b"b"]),
-        ("/a0", &[b"a0"]),
-    ];
-    let mut paths = BTreeSet::new(rt.alloc());
-    for (_, names) in rows.iter().rev() {
-        paths.insert(path(rt.alloc(), names)?)?;
-    }
+    let alloc = rt.alloc();
+    let mut paths = BTreeSet::new(alloc);
+    paths.insert(path(alloc, &[b"a0"])?)?;
+    paths.insert(path(alloc, &[b"a", b"b"])?)?;
+    paths.insert(path(alloc, &[b"a", b"a-b"])?)?;
+    paths.insert(path(alloc, &[b"a-b"])?)?;
+    paths.insert(path(alloc, &[b"a"])?)?;
+    paths.insert(Path::root(alloc))?;
+
     let mut found = paths.iter();
-    for (text, names) in rows {
-        let next = found.next().ok_or("a path is missing")?;
-        assert_eq!(rt; next.print(rt.alloc())?.as_slice(), text.as_bytes());
-        assert_eq!(rt; next, &path(rt.alloc(), names)?, "at {text}");
-    }
+    is_next(&rt, alloc, found.next(), "/", &[])?;
+    is_next(&rt, alloc, found.next(), "/a", &[b"a"])?;
+    is_next(&rt, alloc, found.next(), "/a-b", &[b"a-b"])?;
+    is_next(&rt, alloc, found.next(), "/a/a-b", &[b"a", b"a-b"])?;
+    is_next(&rt, alloc, found.next(), "/a/b", &[b"a", b"b"])?;
+    is_next(&rt, alloc, found.next(), "/a0", &[b"a0"])?;
     Ok(())
 }
 
