@@ -4,6 +4,16 @@
 //! It has no algorithm of the product.
 #![tactic(auto)]
 
+mod cache;
 mod form;
+pub mod laws;
+mod namespace;
+mod world;
 
+pub use cache::{CacheState, DeviceCall, Resident};
 pub use form::LineForm;
+pub use namespace::{
+    Backing, DeviceState, End, KeptNode, LiveFile, Mount, Namespace, Origin, Reference, Role,
+    RomImage, RomNode, RowChange, Tree, VolumeState,
+};
+pub use world::{DeviceHome, FileState, Homes, World};

@@ -1,0 +1,10 @@
+pub mod FormLemmas
+pub mod LastLemmas
+pub mod LineLemmas
+pub mod PathLemmas
+pub mod PrintedLemmas
+pub mod RomLemmas
+pub mod RomTreeLemmas
+pub mod RoundTrip
+pub mod SplitLemmas
+pub mod TextLemmas

@@ -1,0 +1,15 @@
+pub mod CacheExamples
+pub mod CoveringMounts
+pub mod DeviceExamples
+pub mod ExampleSteps
+pub mod Examples
+pub mod MountLaws
+pub mod MovedLaws
+pub mod NodeLaws
+pub mod NormalPaths
+pub mod RefusalExamples
+pub mod RefusedSteps
+pub mod RenameLaws
+pub mod Trees
+pub mod WorkerLaws
+pub mod WorldLaws

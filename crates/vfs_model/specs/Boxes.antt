@@ -1,0 +1,93 @@
+-- Where cells and character devices are, and the whole record of what holds between steps.
+use Rattle.std.specs.Prelude.{◌≡◌, ℕ, ◌+◌, ◌==◌, ◌≤◌, ◌<◌, Bool, true, false, not, ◌&&◌, Option, Some, None, [], length, count_by, slice_index_or, if◌then◌else◌}
+use Rattle.vfs_base.specs.declared.kinds.FsType.TheVariants as fs
+use Rattle.vfs_base.specs.declared.kinds.Kind.{Kind}
+use Rattle.vfs_model.specs.Consistency.{FoldersStand, IsClosedTree, ReferencesLive, RowsUsed, agrees}
+use Rattle.vfs_model.specs.Content.{is_mounted}
+use Rattle.vfs_model.specs.FileLife.{no_device, volume_at}
+use Rattle.vfs_model.specs.FileStep.{is_cell}
+use Rattle.vfs_model.specs.Lookup.{is_dir_node}
+use Rattle.vfs_model.specs.Namespace.{generation_at, life_at, tree_of}
+use Rattle.vfs_model.specs.ReferenceSteps.{is_device_kind}
+use Rattle.vfs_model.specs.World.{file_at}
+use Rattle.vfs_model.specs.declared.namespace.Backing.{Backing}
+use Rattle.vfs_model.specs.declared.namespace.Backing.TheVariants as backing
+use Rattle.vfs_model.specs.declared.namespace.KeptNode.{KeptNode}
+use Rattle.vfs_model.specs.declared.namespace.KeptNode.TheVariants as kept
+use Rattle.vfs_model.specs.declared.namespace.LiveFile.{LiveFile}
+use Rattle.vfs_model.specs.declared.namespace.Namespace.{Namespace}
+use Rattle.vfs_model.specs.declared.world.World.{World}
+
+abbrev pub lies_on_cell : ℕ → ℕ → Backing → Bool
+lies_on_cell volume cell backing.Memory = false
+lies_on_cell volume cell (backing.Cell other at) = other == volume && at == cell
+lies_on_cell volume cell (backing.Device device) = false
+
+abbrev pub lies_on_device : ℕ → Backing → Bool
+lies_on_device device backing.Memory = false
+lies_on_device device (backing.Cell volume cell) = false
+lies_on_device device (backing.Device other) = other == device
+
+abbrev pub is_backed_by : (Backing → Bool) → Option LiveFile → Bool
+is_backed_by test None = false
+is_backed_by test (Some life) = test life.backing
+
+abbrev pub is_kept_on : ℕ → KeptNode → Bool
+is_kept_on cell kept.Dir = false
+is_kept_on cell (kept.File other) = other == cell
+
+abbrev pub is_kept_dir : Option KeptNode → Bool
+is_kept_dir None = false
+is_kept_dir (Some kept.Dir) = true
+is_kept_dir (Some (kept.File cell)) = false
+
+abbrev pub one_if : Bool → ℕ
+one_if test = if test then 1 else 0
+
+-- how many files have the cell: live ones, and ones that an unmounted volume keeps
+abbrev pub cell_files : Namespace → ℕ → ℕ → ℕ
+cell_files n volume cell =
+    count_by (is_backed_by (lies_on_cell volume cell)) n.lives + count_by (λ entry. is_kept_on cell entry.1) (volume_at n volume).kept
+
+-- what a live file lies on is that of its kind
+abbrev pub fits_kind : Option LiveFile → Bool
+fits_kind None = true
+fits_kind (Some life) = has_backing life.kind life.backing
+  where
+    has_backing : Kind → Backing → Bool
+    has_backing kind backing.Memory = not (is_cell kind) && not (is_device_kind kind)
+    has_backing kind (backing.Cell volume cell) = is_cell kind
+    has_backing kind (backing.Device device) = is_device_kind kind
+
+-- each cell is spare or belongs to exactly one file, and a device is out exactly where a row has it
+pub record BoxesPlaced (n : Namespace) : Type 0 where
+  pub cells : (volume cell : ℕ) → volume < length n.volumes → cell < length (volume_at n volume).pages →
+      cell_files n volume cell + one_if (slice_index_or (volume_at n volume).spare cell false) ≡ 1
+  pub spares : (volume : ℕ) → length (volume_at n volume).spare ≡ length (volume_at n volume).pages
+  pub devices : (device : ℕ) → device < length n.devices →
+      count_by (is_backed_by (lies_on_device device)) n.lives ≡ one_if (slice_index_or n.devices device no_device).is_out
+  pub kinds : (row : ℕ) → fits_kind (life_at n row) ≡ true
+  pub mounted : (volume : ℕ) → is_mounted n fs.Cell (volume_at n volume).name ≡ true → (volume_at n volume).kept ≡ []
+  pub kept : (volume : ℕ) → IsClosedTree is_kept_dir (volume_at n volume).kept
+
+-- how many places the lists of a world have
+pub record HasSizes (w : World) : Type 0 where
+  pub files : length w.files ≡ 1024
+  pub lives : length w.namespace.lives ≡ 1024
+  pub generations : length w.namespace.generations ≡ 1024
+  pub trees : length w.namespace.trees ≡ 16
+  pub folders : length w.namespace.folders ≡ 8
+  pub mounts : length w.namespace.mounts ≤ 15
+
+-- what holds of the world between steps
+pub record IsConsistent (w : World) : Type 0 where
+  -- each row's file is the live one, and has the row's generation
+  pub rows_agree : (row : ℕ) → agrees (life_at w.namespace row) (generation_at w.namespace row) (file_at w row) ≡ true
+  pub references_live : ReferencesLive w.namespace
+  pub rows_used : RowsUsed w.namespace
+  -- each of the 8 sessions has a place for each of the numbers 1 to 32
+  pub references_bounded : length w.namespace.references ≡ 256
+  pub folders_stand : FoldersStand w.namespace
+  pub trees_closed : (number : ℕ) → IsClosedTree is_dir_node (tree_of w.namespace number)
+  pub boxes_placed : BoxesPlaced w.namespace
+  pub sizes : HasSizes w

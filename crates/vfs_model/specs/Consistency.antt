@@ -1,0 +1,91 @@
+-- What holds of the plain world between steps.
+use Rattle.std.specs.Prelude.{◌≡◌, ℕ, ◌==◌, ◌≤◌, ◌<◌, Bool, true, false, not, ◌&&◌, ◌||◌, T, Option, Some, None, is_some, IsSomeAnd, List, [], ◌∷◌, ◌++◌, length, drop, filter, nat_le, slice_index_or}
+use Rattle.std.specs.FinMap.Entries.{find as value_at, is_sorted}
+use Rattle.std.specs.List.{list_any}
+use Rattle.vfs_base.specs.Path.{Path, path_cmp, printed}
+use Rattle.vfs_base.specs.declared.ids.FileId.{FileId}
+use Rattle.vfs_base.specs.declared.kinds.Kind.{Kind}
+use Rattle.vfs_base.specs.declared.kinds.Kind.TheVariants as kind
+use Rattle.vfs_base.specs.declared.kinds.NodeKind.TheVariants as node
+use Rattle.vfs_model.specs.FileLife.{is_held, is_linked}
+use Rattle.vfs_model.specs.Lookup.{is_below, is_folder, nearest, node_in}
+use Rattle.vfs_model.specs.Namespace.{all_mounts, folder_of, generation_at, life_at, same_path, tree_of}
+use Rattle.vfs_model.specs.declared.namespace.LiveFile.{LiveFile}
+use Rattle.vfs_model.specs.declared.namespace.Mount.{Mount}
+use Rattle.vfs_model.specs.declared.namespace.Namespace.{Namespace}
+use Rattle.vfs_model.specs.declared.namespace.Reference.{Reference}
+use Rattle.vfs_model.specs.declared.world.FileState.{FileState}
+use Rattle.vfs_model.specs.declared.world.FileState.TheVariants as file
+
+abbrev pub kind_number : Kind → ℕ
+kind_number kind.Tmp = 0
+kind_number kind.Rom = 1
+kind_number kind.Cell = 2
+kind_number kind.Chr = 3
+
+abbrev pub same_kind : Kind → Kind → Bool
+same_kind a b = kind_number a == kind_number b
+
+-- a row's file is what its live file says, of the row's generation
+abbrev pub agrees : Option LiveFile → ℕ → FileState → Bool
+agrees None generation (file.Unbound other) = other == generation
+agrees None generation (file.Bytes other kind capacity bytes) = false
+agrees None generation (file.Device other input output) = false
+agrees (Some life) generation (file.Unbound other) = false
+agrees (Some life) generation (file.Bytes other shape capacity bytes) =
+    other == generation && same_kind life.kind shape && not (same_kind shape kind.Chr) && nat_le (length bytes) capacity
+agrees (Some life) generation (file.Device other input output) = other == generation && same_kind life.kind kind.Chr
+
+-- the file is live with its generation, as a file of this kind in this mount
+pub record IsLive (n : Namespace) (id : FileId) (kind : Kind) (number : ℕ) : Type 0 where
+  pub generation : generation_at n id.row ≡ id.generation
+  pub life : IsSomeAnd (life_at n id.row) (λ life. (life.kind ≡ kind) × (life.mount ≡ number))
+
+-- a mount has this number
+abbrev pub is_number : Namespace → ℕ → Bool
+is_number n number = list_any (λ mount. mount.number == number) (all_mounts n)
+
+-- each linked file and each file of a reference is live; a reference and its file name one mount, and it stands
+pub record ReferencesLive (n : Namespace) : Type 0 where
+  pub linked : (number : ℕ) (path : Path) (id : FileId) (kind : Kind) → value_at path_cmp path (tree_of n number) ≡ Some (node.File id kind) → IsLive n id kind number
+  pub held : (place : ℕ) (reference : Reference) → slice_index_or n.references place None ≡ Some reference →
+      IsLive n reference.file reference.kind reference.mount × (is_number n reference.mount ≡ true)
+
+-- each live file is linked or held, and no file is linked at two places
+pub record RowsUsed (n : Namespace) : Type 0 where
+  pub used : (row : ℕ) → is_some (life_at n row) ≡ true → (is_linked n row || is_held n row) ≡ true
+  pub alone : (number other : ℕ) (p q : Path) (id same : FileId) (kind like : Kind) →
+      value_at path_cmp p (tree_of n number) ≡ Some (node.File id kind) → value_at path_cmp q (tree_of n other) ≡ Some (node.File same like) →
+      id.row ≡ same.row → (number ≡ other) × (p ≡ q)
+
+-- the mount that covers a point, but for the mounts of the point itself
+abbrev pub covered_mount : Namespace → Path → Mount
+covered_mount n point = nearest point n.root (filter (λ mount. not (same_path mount.point point)) n.mounts)
+
+-- in the tree that a point covers, it is a folder without nodes
+abbrev pub stands_on_folder : Namespace → Path → Type 0
+stands_on_folder n point =
+    let mount = covered_mount n point in
+    let rest : Path = drop (length mount.point) point in
+    (node_in (tree_of n mount.number) rest ≡ Some node.Dir)
+    × (list_any (λ entry. is_below rest entry.0) (tree_of n mount.number) ≡ false)
+
+-- each working directory and each point is a folder, and mounts have different points and numbers
+pub record FoldersStand (n : Namespace) : Type 0 where
+  pub folders : (k : ℕ) → is_folder n (folder_of n k) ≡ true
+  pub short : (k : ℕ) → length (printed (folder_of n k)) ≤ 1024
+  pub root : (n.root.point ≡ []) × (n.root.number ≡ 0)
+  pub points : (place : ℕ) (d : Mount) → place < length n.mounts → stands_on_folder n (slice_index_or n.mounts place d).point
+  pub points_differ : (place other : ℕ) (d : Mount) → place < length (all_mounts n) → other < length (all_mounts n) →
+      (slice_index_or (all_mounts n) place d).point ≡ (slice_index_or (all_mounts n) other d).point → place ≡ other
+  pub numbers_differ : (place other : ℕ) (d : Mount) → place < length (all_mounts n) → other < length (all_mounts n) →
+      (slice_index_or (all_mounts n) place d).number ≡ (slice_index_or (all_mounts n) other d).number → place ≡ other
+  pub numbers : (place : ℕ) (d : Mount) → place < length (all_mounts n) → (slice_index_or (all_mounts n) place d).number < 16
+
+-- a tree of at most 4096 nodes, in the order of paths, in which each parent is a folder
+pub record IsClosedTree {X : Type 0} (is_dir : Option X → Bool) (tree : List (Path × X)) : Type 0 where
+  pub sorted : T (is_sorted path_cmp tree)
+  pub rootless : value_at path_cmp [] tree ≡ None
+  pub parents : (front : Path) (name : List ℕ) → is_some (value_at path_cmp (front ++ name ∷ []) tree) ≡ true →
+      (is_dir (value_at path_cmp front tree) || same_path front []) ≡ true
+  pub bounded : length tree ≤ 4096

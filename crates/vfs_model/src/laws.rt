@@ -1,0 +1,63 @@
+//! The laws of the definitions: each function states one, and does nothing.
+
+ghost use Rattle.vfs_model.specs.Laws.{RefusedStepChangesNothing, WorkerChangesNothing, CoveringMountIsLongest, RefusedWorldStaysSame, PutNodeStands, TakenNodeIsGone, NormalPathHasNormalNames, PrintedPathNamesItself, MountShowsItsTree, UnmountLeavesOtherMounts, MovedSubtreeStands, RenamedSubtreeStands};
+
+/// A step of the namespace that is refused changes neither the namespace nor a row; Shutdown apart.
+pub fn refused_step_changes_nothing()
+    ensures { RefusedStepChangesNothing }
+{}
+
+/// A step that is refused changes nothing in the world; Shutdown apart.
+pub fn refused_world_stays_same()
+    ensures { RefusedWorldStaysSame }
+{}
+
+/// The worker's write-back and eviction change no byte and no name.
+pub fn worker_changes_nothing()
+    ensures { WorkerChangesNothing }
+{}
+
+/// The covering mount is the mount with the longest point that is a prefix of the path.
+pub fn covering_mount_is_longest()
+    ensures { CoveringMountIsLongest }
+{}
+
+/// A node put at a path that is no mount's point stands there, and no other path changes.
+pub fn put_node_stands()
+    ensures { PutNodeStands }
+{}
+
+/// A node taken away from a path that is no mount's point is gone, and no other path changes.
+pub fn taken_node_is_gone()
+    ensures { TakenNodeIsGone }
+{}
+
+/// A normal path has no part that is empty, `.` or `..`, and is short enough to be asked for.
+pub fn normal_path_has_normal_names()
+    ensures { NormalPathHasNormalNames }
+{}
+
+/// The printed form of a normal path names that path again.
+pub fn printed_path_names_itself()
+    ensures { PrintedPathNamesItself }
+{}
+
+/// At and below its point a new mount shows its own tree, and no other path changes.
+pub fn mount_shows_its_tree()
+    ensures { MountShowsItsTree }
+{}
+
+/// A mount that goes changes no path that another mount covers.
+pub fn unmount_leaves_other_mounts()
+    ensures { UnmountLeavesOtherMounts }
+{}
+
+/// A subtree that has moved stands at its new path, and no path but the old and the new one changes.
+pub fn moved_subtree_stands()
+    ensures { MovedSubtreeStands }
+{}
+
+/// After a rename the subtree stands at its new path, and no path but the old and the new one changes.
+pub fn renamed_subtree_stands()
+    ensures { RenamedSubtreeStands }
+{}
