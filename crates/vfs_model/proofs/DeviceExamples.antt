@@ -13,7 +13,7 @@ use Rattle.vfs_base.specs.declared.reply.Reply.TheVariants as reply
 use Rattle.vfs_base.specs.declared.step.Step.TheVariants as step
 use Rattle.vfs_model.proofs.ExampleSteps.{asks, asks_stopped, bare, bare_replies, ends, file_entry, hold, id, no, r, rw_creat, steps, to_append}
 use Rattle.vfs_model.specs.Asking.{Asked, run_steps}
-use Rattle.vfs_model.specs.World.{opening_world}
+use Rattle.vfs_model.specs.Homes.{opening_world}
 use Rattle.vfs_model.specs.declared.namespace.RomImage.{RomImage}
 use Rattle.vfs_model.specs.declared.namespace.RomNode.TheVariants as rom
 use Rattle.vfs_model.specs.declared.world.DeviceHome.{DeviceHome}

@@ -34,7 +34,8 @@ use Rattle.vfs_model.specs.OpenStep.{make_file, open_at, open_refusals}
 use Rattle.vfs_model.specs.ReferenceSteps.{give_up_step, map_step}
 use Rattle.vfs_model.specs.RenameStep.{move_at, move_refusals, moved, rename_at, rename_refusals, with_moved}
 use Rattle.vfs_model.specs.UmountSteps.{empty_mount, is_busy, mkfs_step, remove_all, remove_mount, umount_at}
-use Rattle.vfs_model.specs.World.{fits_step, opening_world, world_step}
+use Rattle.vfs_model.specs.Homes.{opening_world}
+use Rattle.vfs_model.specs.World.{fits_step, world_step}
 
 -- no device at all
 abbrev pub bare : Describe

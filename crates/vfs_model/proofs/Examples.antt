@@ -266,3 +266,15 @@ pub mkdir_of_the_root_is_refused : bare_replies (
     ∷ no errno.ENOENT ∷ reply.Opened (hold 1 1) (id 1 1) kind.Tmp ∷ no errno.EEXIST ∷ reply.Opened (hold 1 2) (id 1 1) kind.Tmp ∷ no errno.ENOENT ∷ []
 unfolding steps
 mkdir_of_the_root_is_refused = refl
+
+pub want_of_memory_at_the_end_leaves_the_mounts : bare_replies (
+    asks 1 (step.Mkdir (codes "/a"))
+    ∷ asks 1 (step.Mount (codes "x") (codes "/a") (codes "tmp"))
+    ∷ ends (mark.NoMem 0)
+    ∷ asks 1 (step.Umount (codes "/a"))
+    ∷ ends mark.Clear
+    ∷ asks 1 (step.List (codes "/"))
+    ∷ []
+    ) ≡ reply.Done ∷ reply.Done ∷ no errno.ENOMEM ∷ reply.Done ∷ reply.Done ∷ reply.Listing [] [] ∷ []
+unfolding steps
+want_of_memory_at_the_end_leaves_the_mounts = refl

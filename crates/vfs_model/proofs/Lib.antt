@@ -1,12 +1,14 @@
 pub mod CacheExamples
 pub mod CoveringMounts
 pub mod DeviceExamples
+pub mod EmptyMounts
 pub mod ExampleSteps
 pub mod Examples
 pub mod MountLaws
 pub mod MovedLaws
 pub mod NodeLaws
 pub mod NormalPaths
+pub mod OpeningLaws
 pub mod RefusalExamples
 pub mod RefusedSteps
 pub mod RenameLaws

@@ -118,13 +118,13 @@ not-there : (new q : Path) (entry : Path × NodeKind) → is_below new entry.0 �
 not-there new q entry h k f = let t : is_below new entry.0 ≡ true = ap (is_below new) (sym f) ∙ k in absurd (cc)
 
 -- a tree without nodes below a path has none there
-none-below : (new q : Path) (tree : Tree) → list_any (λ entry. is_below new entry.0) tree ≡ false → is_below new q ≡ true → value_at path_cmp q tree ≡ None
+pub none-below : (new q : Path) (tree : Tree) → list_any (λ entry. is_below new entry.0) tree ≡ false → is_below new q ≡ true → value_at path_cmp q tree ≡ None
 none-below new q [] h k = refl
 none-below new q (entry ∷ tree) h k =
     let both = neither _ _ h in
     at-later q entry tree (not-there new q entry both.0 k) ∙ none-below new q tree both.1 k
 
-below-longer : (new : Path) (name : List ℕ) (rest : Path) → is_below new (new ++ name ∷ rest) ≡ true
+pub below-longer : (new : Path) (name : List ℕ) (rest : Path) → is_below new (new ++ name ∷ rest) ≡ true
 below-longer new name rest =
     let l : nat_lt (length new) (length (new ++ name ∷ rest)) ≡ true = rw (length-append new (name ∷ rest)) (grind (arith, nat_tests)) in
     ap (λ b. b && nat_lt (length new) (length (new ++ name ∷ rest))) (prefix-append new (name ∷ rest)) ∙ l

@@ -9,7 +9,7 @@ use Rattle.vfs_base.specs.declared.step.Step.TheVariants as step
 use Rattle.vfs_model.proofs.DeviceExamples.{boot, on_volume, replies_with, sd0}
 use Rattle.vfs_model.proofs.ExampleSteps.{asks, asks_stopped, bare, bare_replies, file_entry, flags, folder, hold, id, no, r, rw_creat, steps}
 use Rattle.vfs_model.specs.Asking.{Asked, run_steps}
-use Rattle.vfs_model.specs.World.{opening_world}
+use Rattle.vfs_model.specs.Homes.{opening_world}
 
 pub refusals_in_a_rom : (run_steps (opening_world (boot ∷ []) bare) (
     asks 1 (step.Mkdir (codes "/r"))

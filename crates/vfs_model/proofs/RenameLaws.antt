@@ -74,7 +74,7 @@ append-assoc [] b c = refl
 append-assoc (x ∷ a) b c = ap (λ xs. x ∷ xs) (append-assoc a b c)
 
 -- the rest of what lies below a path is the path's rest and more
-rest-below : (n : Namespace) (front rest : Path) → MountsApart n → list_any (λ mount. is_prefix front mount.point) (all_mounts n) ≡ false →
+pub rest-below : (n : Namespace) (front rest : Path) → MountsApart n → list_any (λ mount. is_prefix front mount.point) (all_mounts n) ≡ false →
     rest_of n (front ++ rest) ≡ rest_of n front ++ rest
 rest-below n front rest apart h =
     append_cancel_left (covering_mount n front).point (rest_of n (front ++ rest)) (rest_of n front ++ rest) (

@@ -10,7 +10,8 @@ use Rattle.vfs_base.specs.declared.step.Step.TheVariants as step
 use Rattle.vfs_model.proofs.WorldLaws.{same_file}
 use Rattle.vfs_model.specs.FileMoves.{file_step, move, stopped_step}
 use Rattle.vfs_model.specs.FileStep.{FileOutcome, file_refusals, refused_file}
-use Rattle.vfs_model.specs.World.{file_at, world_step}
+use Rattle.vfs_model.specs.Homes.{file_at}
+use Rattle.vfs_model.specs.World.{world_step}
 use Rattle.vfs_model.specs.declared.world.FileState.{FileState}
 use Rattle.vfs_model.specs.declared.world.FileState.TheVariants as file
 use Rattle.vfs_model.specs.declared.world.World.{World}

@@ -16,7 +16,8 @@ use Rattle.vfs_model.specs.FileMoves.{clear_step, file_step, move, move_bytes, m
 use Rattle.vfs_model.specs.FileStep.{FileOutcome, file_refusals, moved_count, refused_file}
 use Rattle.vfs_model.specs.NamespaceOutcome.{NamespaceOutcome}
 use Rattle.vfs_model.specs.NamespaceStep.{is_shutdown, namespace_step}
-use Rattle.vfs_model.specs.World.{after_format, file_at, namespace_part, session_of, step_on, step_row, with_file, world_step}
+use Rattle.vfs_model.specs.Homes.{file_at, with_file}
+use Rattle.vfs_model.specs.World.{after_format, namespace_part, session_of, step_on, step_row, world_step}
 use Rattle.vfs_model.specs.declared.world.FileState.{FileState}
 use Rattle.vfs_model.specs.declared.world.FileState.TheVariants as file
 use Rattle.vfs_model.specs.declared.world.World.{World}

@@ -1,5 +1,5 @@
 -- Who may ask which step, and lists of steps.
-use Rattle.std.specs.Prelude.{ℕ, ◌==◌, Bool, true, false, not, ◌&&◌, ◌||◌, is_none, Option, Some, None, List, [], ◌∷◌}
+use Rattle.std.specs.Prelude.{◌≡◌, ℕ, ◌==◌, Bool, true, false, not, ◌&&◌, ◌||◌, is_none, Option, Some, None, List, [], ◌∷◌}
 use Rattle.std.specs.List.{list_any, list_all}
 use Rattle.vfs_base.specs.declared.entry.Mark.{Mark}
 use Rattle.vfs_base.specs.declared.entry.Who.{Who}
@@ -53,6 +53,9 @@ may_ask w (who.Session k) asked = may_ask_file w.namespace k asked (step_file as
 may_ask w (who.Flush row) asked = is_flush_of row asked
 may_ask w (who.Reclaim row) asked = is_reclaim_of row asked
 may_ask w who.End asked = is_shutdown asked && is_at_rest w.namespace
+
+abbrev pub MayAsk : World → Who → Step → Type 0
+MayAsk w asker asked = may_ask w asker asked ≡ true
 
 -- A step that is asked: by whom, which one, and how it comes out.
 pub record Asked : Type 0 where

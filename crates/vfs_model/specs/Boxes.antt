@@ -9,7 +9,7 @@ use Rattle.vfs_model.specs.FileStep.{is_cell}
 use Rattle.vfs_model.specs.Lookup.{is_dir_node}
 use Rattle.vfs_model.specs.Namespace.{generation_at, life_at, tree_of}
 use Rattle.vfs_model.specs.ReferenceSteps.{is_device_kind}
-use Rattle.vfs_model.specs.World.{file_at}
+use Rattle.vfs_model.specs.Homes.{file_at}
 use Rattle.vfs_model.specs.declared.namespace.Backing.{Backing}
 use Rattle.vfs_model.specs.declared.namespace.Backing.TheVariants as backing
 use Rattle.vfs_model.specs.declared.namespace.KeptNode.{KeptNode}

@@ -6,6 +6,7 @@ use Rattle.std.specs.Ordering.{nat_cmp}
 use Rattle.vfs_base.specs.declared.kinds.Kind.TheVariants as kind
 use Rattle.vfs_base.specs.declared.step.Step.{Step}
 use Rattle.vfs_base.specs.declared.step.Step.TheVariants as step
+use Rattle.vfs_base.specs.declared.limits.TheConstants.{PAGE_SIZE, RECLAIM_TARGET, RESIDENT_PAGES}
 use Rattle.vfs_model.specs.FileStep.{bytes_count, bytes_refusals}
 use Rattle.vfs_model.specs.declared.cache.CacheState.{CacheState}
 use Rattle.vfs_model.specs.declared.cache.DeviceCall.{DeviceCall}
@@ -15,7 +16,7 @@ use Rattle.vfs_model.specs.declared.cache.Resident.{Resident}
 -- the cache on the way through a step, and the calls of the device so far
 pub record CacheRun : Type 0 where
   pub next : CacheState
-  pub device_calls : List DeviceCall
+  pub calls : List DeviceCall
 
 -- the cache of a file that has no page yet
 abbrev pub empty_cache : CacheState
@@ -35,7 +36,7 @@ abbrev pub write_dirty : CacheRun → Resident → CacheRun
 write_dirty run slot =
     if slot.is_dirty then record {
       next = record run.next { stored = insert_key nat_cmp run.next.stored slot.page };
-      device_calls = run.device_calls ++ call.Write slot.page ∷ [];
+      calls = run.calls ++ call.Write slot.page ∷ [];
     } else run
 
 abbrev pub without_last : CacheState → CacheState
@@ -64,14 +65,14 @@ move_to_front page cache = record cache {
 abbrev pub bring_in : ℕ → CacheRun → CacheRun
 bring_in page run = record {
   next = record run.next { resident = record { page = page; is_dirty = false } ∷ run.next.resident };
-  device_calls = if is_stored run.next page then run.device_calls ++ call.Read page ∷ [] else run.device_calls;
+  calls = if is_stored run.next page then run.calls ++ call.Read page ∷ [] else run.calls;
 }
 
 -- the page is resident and in front: where 32 others are resident, the last of them leaves for it
 unfoldable pub touch : CacheRun → ℕ → CacheRun
 touch run page =
     if is_resident run.next page then record run { next = move_to_front page run.next }
-    else bring_in page (if nat_le 32 (length run.next.resident) then evict_last run else run)
+    else bring_in page (if nat_le RESIDENT_PAGES (length run.next.resident) then evict_last run else run)
 
 abbrev pub make_dirty : ℕ → Resident → Resident
 make_dirty page slot = if is_page page slot then record slot { is_dirty = true } else slot
@@ -85,7 +86,7 @@ edit run page =
 -- the pages in which so many bytes lie from an offset on, in rising order
 abbrev pub pages_of : ℕ → ℕ → List ℕ
 pages_of off count =
-    if count == 0 then [] else range_with_len (off / 4096) ((off + count - 1) / 4096 - off / 4096 + 1)
+    if count == 0 then [] else range_with_len (off / PAGE_SIZE) ((off + count - 1) / PAGE_SIZE - off / PAGE_SIZE + 1)
 
 -- the dirty pages, in rising order
 abbrev pub dirty_pages : CacheState → List ℕ
@@ -101,12 +102,12 @@ write_back run = record {
     resident = map make_clean run.next.resident;
     stored = fold (insert_key nat_cmp) run.next.stored (dirty_pages run.next);
   };
-  device_calls = run.device_calls ++ map (λ page. call.Write page) (dirty_pages run.next);
+  calls = run.calls ++ map (λ page. call.Write page) (dirty_pages run.next);
 }
 
 -- pages leave until 8 are resident
 unfoldable pub reclaim : CacheRun → CacheRun
-reclaim run = evict_many (length run.next.resident - 8) run
+reclaim run = evict_many (length run.next.resident - RECLAIM_TARGET) run
 
 -- the pages from a number on are gone, unwritten
 abbrev pub cut_pages : ℕ → CacheRun → CacheRun
@@ -120,12 +121,12 @@ cut_pages keep run = record run {
 -- the page in which a file ends now is edited where it is not all zeros
 abbrev pub edit_end : CacheRun → ℕ → CacheRun
 edit_end run len =
-    if not (len % 4096 == 0) && (is_resident run.next (len / 4096) || is_stored run.next (len / 4096))
-    then edit run (len / 4096) else run
+    if not (len % PAGE_SIZE == 0) && (is_resident run.next (len / PAGE_SIZE) || is_stored run.next (len / PAGE_SIZE))
+    then edit run (len / PAGE_SIZE) else run
 
 -- a file of so many bytes is cut to a length
 unfoldable pub truncate : CacheRun → ℕ → ℕ → CacheRun
-truncate run size len = if nat_lt len size then cut_pages ((len + 4095) / 4096) (edit_end run len) else run
+truncate run size len = if nat_lt len size then cut_pages ((len + PAGE_SIZE - 1) / PAGE_SIZE) (edit_end run len) else run
 
 -- the bytes that a step moves in a cell of this capacity with so many bytes
 abbrev pub cell_count : ℕ → ℕ → Step → ℕ
@@ -147,5 +148,9 @@ cache_move run size _ count = run
 -- the cache after a step that nothing stops, and the calls of the device that it makes
 unfoldable pub cache_step : CacheState → ℕ → ℕ → Step → CacheRun
 cache_step cache capacity size asked =
-    let run : CacheRun = record { next = cache; device_calls = [] } in
+    let run : CacheRun = record { next = cache; calls = [] } in
     if is_ok (bytes_refusals kind.Cell capacity size asked) then cache_move run size asked (cell_count capacity size asked) else run
+
+-- the calls of the device that a step makes which nothing stops
+abbrev pub device_calls : CacheState → ℕ → ℕ → Step → List DeviceCall
+device_calls cache capacity size asked = (cache_step cache capacity size asked).calls

@@ -4,12 +4,14 @@ use Rattle.vfs_base.specs.declared.describe.Describe.{Describe}
 use Rattle.vfs_base.specs.declared.reply.Reply.{Reply}
 use Rattle.vfs_base.specs.declared.step.Step.{Step}
 use Rattle.vfs_base.specs.declared.step.Step.TheVariants as step
+use Rattle.vfs_base.specs.declared.limits.TheConstants.{ROWS}
 use Rattle.vfs_model.specs.Asking.{Asked}
 use Rattle.vfs_model.specs.Cache.{CacheRun, cache_step, empty_cache, write_back}
 use Rattle.vfs_model.specs.FileLife.{backing_of, volume_named}
 use Rattle.vfs_model.specs.Namespace.{life_at}
 use Rattle.vfs_model.specs.NamespaceStep.{namespace_step}
-use Rattle.vfs_model.specs.World.{file_at, is_done, opening_world, session_of, step_row, world_step}
+use Rattle.vfs_model.specs.Homes.{file_at, opening_world}
+use Rattle.vfs_model.specs.World.{is_done, session_of, step_row, world_step}
 use Rattle.vfs_model.specs.declared.cache.CacheState.{CacheState}
 use Rattle.vfs_model.specs.declared.cache.DeviceCall.{DeviceCall}
 use Rattle.vfs_model.specs.declared.cache.DeviceCall.TheVariants as call
@@ -42,7 +44,7 @@ no_calls = record { reads = 0; writes = 0 }
 
 abbrev pub opening_io : Describe → IoState
 opening_io describe = record {
-  caches = replicate 1024 empty_cache;
+  caches = replicate ROWS empty_cache;
   stored = map (λ shape. replicate (length shape.pages) []) describe.volumes;
   totals = map (λ shape. no_calls) describe.volumes;
 }
@@ -81,7 +83,7 @@ count_calls io volume calls =
 
 -- a row's cache after a run of calls on its device
 abbrev pub after_run : IoState → ℕ → ℕ → CacheRun → IoState
-after_run io row volume run = count_calls (with_cache io row run.next) volume run.device_calls
+after_run io row volume run = count_calls (with_cache io row run.next) volume run.calls
 
 abbrev pub io_cell : IoState → ℕ → ℕ → FileState → Step → IoState
 io_cell io row volume (file.Bytes generation kind capacity bytes) asked =
@@ -106,7 +108,7 @@ io_bind io row (origin.Device device) = io
 -- a row's cache as the row is freed: it is written back where the volume keeps the file, and else dropped
 abbrev pub io_free : IoState → ℕ → End → IoState
 io_free io row (end.Kept volume cell) =
-    let run = write_back (record { next = cache_at io row; device_calls = [] }) in
+    let run = write_back (record { next = cache_at io row; calls = [] }) in
     with_cache (with_stored (after_run io row volume run) volume cell run.next.stored) row empty_cache
 io_free io row (end.Spare volume cell) = with_cache io row empty_cache
 io_free io row end.Nothing = io

@@ -8,6 +8,7 @@ use Rattle.vfs_base.specs.declared.entry.Mark.{Mark}
 use Rattle.vfs_base.specs.declared.entry.Who.{Who}
 use Rattle.vfs_base.specs.declared.errno.Errno.{Errno}
 use Rattle.vfs_base.specs.declared.kinds.NodeKind.{NodeKind}
+use Rattle.vfs_base.specs.declared.kinds.NodeKind.TheVariants as node
 use Rattle.vfs_base.specs.declared.reply.Reply.TheVariants as reply
 use Rattle.vfs_base.specs.declared.step.Step.{Step}
 use Rattle.vfs_base.specs.declared.step.Step.TheVariants as step
@@ -118,3 +119,11 @@ RenamedSubtreeStands = (n : Namespace) (old new : Path) → MountsApart n → (c
     ((rest : Path) → node_at (with_moved n old new) (new ++ rest) ≡ node_at n (old ++ rest))
     × ((path : Path) → is_prefix new path ≡ false → is_prefix old path ≡ true → node_at (with_moved n old new) path ≡ None)
     × ((path : Path) → is_prefix new path ≡ false → is_prefix old path ≡ false → node_at (with_moved n old new) path ≡ node_at n path)
+
+-- a mount without nodes, on a folder without nodes, changes no path
+abbrev pub EmptyMountChangesNoNode : Type 0
+EmptyMountChangesNoNode = (n : Namespace) (mount : Mount) (path : Path) → MountsApart n →
+    list_any (λ other. is_prefix mount.point other.point) (all_mounts n) ≡ false →
+    list_any (λ other. other.number == mount.number) (all_mounts n) ≡ false → mount.number < length n.trees →
+    node_at n mount.point ≡ Some node.Dir → has_nodes n mount.point ≡ false →
+    node_at (with_mount n mount []) path ≡ node_at n path

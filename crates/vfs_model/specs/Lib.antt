@@ -8,6 +8,7 @@ pub mod FileLife
 pub mod FileMoves
 pub mod FileStep
 pub mod Holders
+pub mod Homes
 pub mod IoTotals
 pub mod Laws
 pub mod Line
@@ -20,6 +21,7 @@ pub mod NamespaceOutcome
 pub mod NamespaceStep
 pub mod NormalPath
 pub mod OpenStep
+pub mod OpeningLaw
 pub mod ReferenceSteps
 pub mod RenameStep
 pub mod Rom

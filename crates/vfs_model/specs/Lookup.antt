@@ -11,6 +11,7 @@ use Rattle.vfs_base.specs.declared.kinds.FsType.{FsType}
 use Rattle.vfs_base.specs.declared.kinds.FsType.TheVariants as fs
 use Rattle.vfs_base.specs.declared.kinds.NodeKind.{NodeKind}
 use Rattle.vfs_base.specs.declared.kinds.NodeKind.TheVariants as node
+use Rattle.vfs_base.specs.declared.limits.TheConstants.{NODES}
 use Rattle.vfs_model.specs.Namespace.{Tree, all_mounts, folder_of, same_path, tree_of}
 use Rattle.vfs_model.specs.NormalPath.{TextFault, Empty, BadByte, NameTooLong, PathTooLong, normal_path}
 use Rattle.vfs_model.specs.declared.namespace.Mount.{Mount}
@@ -112,9 +113,9 @@ is_read_only_type fs.Dev = true
 abbrev pub is_read_only : Namespace → Path → Bool
 is_read_only n path = is_read_only_type (covering_mount n path).fs
 
--- the mount of the path has 4096 nodes beside its root
+-- the mount of the path has as many nodes beside its root as it may
 abbrev pub is_full : Namespace → Path → Bool
-is_full n path = nat_le 4096 (length (tree_of n (covering_mount n path).number))
+is_full n path = nat_le NODES (length (tree_of n (covering_mount n path).number))
 
 -- the namespace with another tree at a mount's number
 abbrev pub with_tree : Namespace → ℕ → Tree → Namespace

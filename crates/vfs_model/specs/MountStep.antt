@@ -9,6 +9,7 @@ use Rattle.vfs_base.specs.declared.kinds.FsType.{FsType}
 use Rattle.vfs_base.specs.declared.kinds.FsType.TheVariants as fs
 use Rattle.vfs_base.specs.declared.kinds.NodeKind.{NodeKind}
 use Rattle.vfs_base.specs.declared.kinds.NodeKind.TheVariants as node
+use Rattle.vfs_base.specs.declared.limits.TheConstants.{MOUNTS}
 use Rattle.vfs_model.specs.Chain.{◌>>=◌, ◌>>◌, refuse◌when◌, refuse_by, wanted}
 use Rattle.vfs_model.specs.Content.{content_of, file_count, fs_type_of, is_mounted, same_type}
 use Rattle.vfs_model.specs.FileLife.{Rows, bind_row, free_rows, least_free_row, next_file, volume_named, with_kept}
@@ -48,7 +49,7 @@ mount_refusals n path asked source = do
   refuse errno.ENOTDIR when (is_file n path)
   refuse errno.EBUSY when (is_point n path || has_mount_below n path || has_folder_within n path)
   refuse errno.ENOTEMPTY when (has_nodes n path)
-  refuse errno.ENOSPC when (nat_le 16 (length (all_mounts n)))
+  refuse errno.ENOSPC when (nat_le MOUNTS (length (all_mounts n)))
   refuse errno.ENXIO when (is_without_source n asked source || (same_type asked fs.Cell && n.is_stopped))
   refuse errno.EBUSY when (is_taken n asked source)
   refuse errno.ENOSPC when (nat_lt (count_by (λ free. free) (free_rows n)) (file_count (content_of n asked source)))
@@ -83,7 +84,7 @@ add_content mount rows path (Some begins) = bind_content mount path begins rows
 -- the least number from 0 to 15 that no mount has
 abbrev pub least_free_mount : Namespace → ℕ
 least_free_mount n =
-    position_or_len (λ number. not (list_any (λ mount. mount.number == number) (all_mounts n))) (range_with_len 0 16)
+    position_or_len (λ number. not (list_any (λ mount. mount.number == number) (all_mounts n))) (range_with_len 0 MOUNTS)
 
 -- a volume that is mounted keeps no names of its own
 abbrev pub without_kept : Namespace → FsType → List ℕ → Namespace

@@ -9,6 +9,7 @@ use Rattle.vfs_base.specs.declared.describe.VolumeShape.{VolumeShape}
 use Rattle.vfs_base.specs.declared.ids.FileId.{FileId}
 use Rattle.vfs_base.specs.declared.kinds.FsType.TheVariants as fs
 use Rattle.vfs_base.specs.declared.kinds.NodeKind.{NodeKind}
+use Rattle.vfs_base.specs.declared.limits.TheConstants.{HOLDS, MOUNTS, ROWS, SESSIONS}
 use Rattle.vfs_model.specs.declared.namespace.DeviceState.{DeviceState}
 use Rattle.vfs_model.specs.declared.namespace.LiveFile.{LiveFile}
 use Rattle.vfs_model.specs.declared.namespace.Mount.{Mount}
@@ -59,11 +60,11 @@ with_folder_of n k path = record n { folders = slice_set n.folders (k - 1) path 
 
 -- the references of a session by number, from 1 to 32
 abbrev pub references_of : Namespace → ℕ → List (Option Reference)
-references_of n k = slice_range n.references (32 * (k - 1)) (32 * k)
+references_of n k = slice_range n.references (HOLDS * (k - 1)) (HOLDS * k)
 
 -- what stands at a number of a session's references
 abbrev pub with_reference : Namespace → ℕ → ℕ → Option Reference → Namespace
-with_reference n k number reference = record n { references = slice_set n.references (32 * (k - 1) + (number - 1)) reference }
+with_reference n k number reference = record n { references = slice_set n.references (HOLDS * (k - 1) + (number - 1)) reference }
 
 -- the mount of `/`: in memory, with the source word `none`
 abbrev pub root_mount : Mount
@@ -81,11 +82,11 @@ unfoldable pub opening_namespace : List RomImage → Describe → Namespace
 opening_namespace roms describe = record {
   root = root_mount;
   mounts = [];
-  trees = replicate 16 [];
-  lives = replicate 1024 None;
-  generations = replicate 1024 0;
-  references = replicate 256 None;
-  folders = replicate 8 [];
+  trees = replicate MOUNTS [];
+  lives = replicate ROWS None;
+  generations = replicate ROWS 0;
+  references = replicate (SESSIONS * HOLDS) None;
+  folders = replicate SESSIONS [];
   volumes = map opening_volume describe.volumes;
   roms = roms;
   devices = map opening_device describe.chars;

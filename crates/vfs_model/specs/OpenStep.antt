@@ -12,6 +12,7 @@ use Rattle.vfs_base.specs.declared.kinds.Kind.TheVariants as kind
 use Rattle.vfs_base.specs.declared.kinds.NodeKind.{NodeKind}
 use Rattle.vfs_base.specs.declared.kinds.NodeKind.TheVariants as node
 use Rattle.vfs_base.specs.declared.reply.Reply.TheVariants as reply
+use Rattle.vfs_base.specs.declared.limits.TheConstants.{HOLDS, ROWS}
 use Rattle.vfs_model.specs.Chain.{◌>>=◌, ◌>>◌, refuse◌when◌, refuse_by}
 use Rattle.vfs_model.specs.FileLife.{Rows, bind_row, least_free_row, next_file, volume_at, volume_named}
 use Rattle.vfs_model.specs.Lookup.{asked_path, covering_mount, is_file, is_folder, is_full, is_read_only, is_there, node_at, walk_refusal, with_node}
@@ -61,7 +62,7 @@ is_without_cell n mount fs.Dev = false
 -- a file can't be made at the path for want of a node, a row or a cell
 abbrev pub has_no_room : Namespace → Path → Bool
 has_no_room n path =
-    is_full n path || nat_lt 1024 (least_free_row n) || is_without_cell n (covering_mount n path) (covering_mount n path).fs
+    is_full n path || nat_lt ROWS (least_free_row n) || is_without_cell n (covering_mount n path) (covering_mount n path).fs
 
 abbrev pub is_rom_node : Option NodeKind → Bool
 is_rom_node (Some (node.File file kind.Rom)) = true
@@ -80,7 +81,7 @@ open_refusals n k path flags = do
   refuse errno.EEXIST when (is_file n path && creates flags && is_exclusive flags)
   refuse errno.ENOENT when (not (is_there n path) && not (creates flags))
   refuse errno.EROFS when ((not (is_there n path) && is_read_only n path) || (is_rom_node (node_at n path) && for_writing flags))
-  refuse errno.EMFILE when (nat_lt 32 (least_free_number n k))
+  refuse errno.EMFILE when (nat_lt HOLDS (least_free_number n k))
   refuse errno.ENOSPC when (not (is_there n path) && has_no_room n path)
 
 -- the kind of the files of a type of file system

@@ -6,6 +6,7 @@ use Rattle.vfs_base.specs.declared.ids.HoldId.{HoldId}
 use Rattle.vfs_base.specs.declared.kinds.Kind.{Kind}
 use Rattle.vfs_base.specs.declared.kinds.Kind.TheVariants as kind
 use Rattle.vfs_base.specs.declared.reply.Reply.TheVariants as reply
+use Rattle.vfs_base.specs.declared.limits.TheConstants.{HOLDS}
 use Rattle.vfs_model.specs.Chain.{◌>>=◌, ◌>>◌, refuse◌when◌, wanted}
 use Rattle.vfs_model.specs.FileLife.{free_if_unused}
 use Rattle.vfs_model.specs.NameSteps.{done}
@@ -55,6 +56,6 @@ unfoldable pub map_step : Namespace → ℕ → HoldId → Result NamespaceOutco
 map_step n k hold = do
   opened ← wanted errno.EBADF (reference_at n k hold role.Open)
   refuse errno.ENODEV when (is_device_kind opened.kind)
-  refuse errno.EMFILE when (nat_lt 32 (least_free_number n k))
+  refuse errno.EMFILE when (nat_lt HOLDS (least_free_number n k))
   answers (reply.Held (record { session = k; number = least_free_number n k }))
       (with_reference n k (least_free_number n k) (Some (record opened { role = role.Map }))) []

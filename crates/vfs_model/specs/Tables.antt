@@ -12,6 +12,7 @@ use Rattle.vfs_base.specs.declared.kinds.NodeKind.TheVariants as node
 use Rattle.vfs_base.specs.declared.reply.DeviceLine.{DeviceLine}
 use Rattle.vfs_base.specs.declared.reply.MountLine.{MountLine}
 use Rattle.vfs_base.specs.declared.reply.Reply.TheVariants as reply
+use Rattle.vfs_base.specs.declared.limits.TheConstants.{NODES}
 use Rattle.vfs_model.specs.Content.{is_mounted, same_type}
 use Rattle.vfs_model.specs.FileLife.{volume_at, volume_named}
 use Rattle.vfs_model.specs.Holders.{holder_lines}
@@ -26,7 +27,7 @@ node_count n mount = length (tree_of n mount.number)
 
 -- how many more files a mount can hold, where its type counts them
 abbrev pub spare_count : Namespace → Mount → FsType → ℕ
-spare_count n mount fs.Tmp = 4096 - node_count n mount
+spare_count n mount fs.Tmp = NODES - node_count n mount
 spare_count n mount fs.Cell = count_by (λ is_spare. is_spare) (volume_at n (volume_named n mount.source)).spare
 spare_count n mount fs.Rom = 0
 spare_count n mount fs.Dev = 0

@@ -4,8 +4,9 @@ use Rattle.std.specs.FinMap.Entries.{find as value_at}
 use Rattle.vfs_base.specs.Path.{Path, path_cmp}
 use Rattle.vfs_base.specs.declared.describe.CellNode.{CellNode}
 use Rattle.vfs_base.specs.declared.describe.CellNode.TheVariants as recorded
+use Rattle.vfs_base.specs.declared.limits.TheConstants.{PAGE_SIZE}
 use Rattle.vfs_model.specs.FileLife.{volume_at}
-use Rattle.vfs_model.specs.World.{cell_bytes, device_home, no_home}
+use Rattle.vfs_model.specs.Homes.{cell_bytes, device_home, no_home}
 use Rattle.vfs_model.specs.declared.namespace.KeptNode.{KeptNode}
 use Rattle.vfs_model.specs.declared.namespace.KeptNode.TheVariants as kept
 use Rattle.vfs_model.specs.declared.world.DeviceHome.{DeviceHome}
@@ -30,13 +31,13 @@ has_page words page = bit_and (slice_index_or words (page / 64) 0 / 2 ^ (page % 
 
 -- the bytes of a file in a page, with zeros behind its end
 abbrev pub file_page : List ℕ → ℕ → List ℕ
-file_page bytes page = take 4096 (drop (4096 * page) bytes ++ replicate 4096 0)
+file_page bytes page = take PAGE_SIZE (drop (PAGE_SIZE * page) bytes ++ replicate PAGE_SIZE 0)
 
 -- each page of the file is on its cell where it is stored, and else is zeros
 pub record PagesWritten (bytes : List ℕ) (words : List ℕ) (pages : List (List ℕ)) : Type 0 where
-  pub stored : (page : ℕ) → 4096 * page < length bytes → has_page words page ≡ true →
-      take (length bytes - 4096 * page) (slice_index_or pages page []) ≡ take (length bytes - 4096 * page) (file_page bytes page)
-  pub zeros : (page : ℕ) → 4096 * page < length bytes → has_page words page ≡ false → file_page bytes page ≡ replicate 4096 0
+  pub stored : (page : ℕ) → PAGE_SIZE * page < length bytes → has_page words page ≡ true →
+      take (length bytes - PAGE_SIZE * page) (slice_index_or pages page []) ≡ take (length bytes - PAGE_SIZE * page) (file_page bytes page)
+  pub zeros : (page : ℕ) → PAGE_SIZE * page < length bytes → has_page words page ≡ false → file_page bytes page ≡ replicate PAGE_SIZE 0
 
 -- the record has the node that the volume keeps at a path, and its bytes lie on its cell
 abbrev pub NodeWritten : (ℕ → List ℕ) → List (List (List ℕ)) → Option KeptNode → Option CellNode → Type 0

@@ -1,6 +1,7 @@
 //! The laws of the definitions: each function states one, and does nothing.
 
-ghost use Rattle.vfs_model.specs.Laws.{RefusedStepChangesNothing, WorkerChangesNothing, CoveringMountIsLongest, RefusedWorldStaysSame, PutNodeStands, TakenNodeIsGone, NormalPathHasNormalNames, PrintedPathNamesItself, MountShowsItsTree, UnmountLeavesOtherMounts, MovedSubtreeStands, RenamedSubtreeStands};
+ghost use Rattle.vfs_model.specs.OpeningLaw.{OpeningWorldIsConsistent};
+ghost use Rattle.vfs_model.specs.Laws.{RefusedStepChangesNothing, WorkerChangesNothing, CoveringMountIsLongest, RefusedWorldStaysSame, PutNodeStands, TakenNodeIsGone, NormalPathHasNormalNames, PrintedPathNamesItself, MountShowsItsTree, UnmountLeavesOtherMounts, MovedSubtreeStands, RenamedSubtreeStands, EmptyMountChangesNoNode};
 
 /// A step of the namespace that is refused changes neither the namespace nor a row; Shutdown apart.
 pub fn refused_step_changes_nothing()
@@ -60,4 +61,14 @@ pub fn moved_subtree_stands()
 /// After a rename the subtree stands at its new path, and no path but the old and the new one changes.
 pub fn renamed_subtree_stands()
     ensures { RenamedSubtreeStands }
+{}
+
+/// The world at the start is consistent, whatever devices and roms there are.
+pub fn opening_world_is_consistent()
+    ensures { OpeningWorldIsConsistent }
+{}
+
+/// A mount without nodes, on a folder without nodes, changes no path.
+pub fn empty_mount_changes_no_node()
+    ensures { EmptyMountChangesNoNode }
 {}

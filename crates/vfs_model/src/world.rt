@@ -45,7 +45,7 @@ pub struct Homes {
 #[derive(Debug, Drop)]
 pub struct World {
     pub namespace: Namespace,
-    /// The file of each row, from the first on.
+    /// The file of each row, from the first row on.
     pub files: List<FileState>,
     pub homes: Homes,
 }

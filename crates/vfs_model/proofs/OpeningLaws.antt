@@ -1,0 +1,138 @@
+-- The world at the start is consistent.
+use Rattle.std.proofs.Common.{◌≡◌, ℕ, zero, suc, ◌-◌, ◌<◌, Bool, true, false, Option, None, is_some, List, [], ◌∷◌, length, map, replicate, slice_index_or, refl, sym, ap, subst, ◌∙◌, arith}
+use Rattle.std.specs.FinMap.Entries.{find as value_at}
+use Rattle.vfs_base.specs.Path.{Path, path_cmp}
+use Rattle.vfs_base.specs.declared.describe.CharsShape.{CharsShape}
+use Rattle.vfs_base.specs.declared.describe.Describe.{Describe}
+use Rattle.vfs_base.specs.declared.describe.VolumeShape.{VolumeShape}
+use Rattle.vfs_model.specs.Boxes.{BoxesPlaced, HasSizes, IsConsistent, fits_kind, is_kept_dir, one_if}
+use Rattle.vfs_model.specs.Consistency.{FoldersStand, IsClosedTree, ReferencesLive, RowsUsed, agrees}
+use Rattle.vfs_model.specs.FileLife.{no_device, no_volume}
+use Rattle.vfs_model.specs.Homes.{file_at, opening_world}
+use Rattle.vfs_model.specs.Lookup.{covering_mount, is_dir_node, is_folder, node_at}
+use Rattle.vfs_model.specs.Namespace.{folder_of, generation_at, life_at, opening_device, opening_namespace, opening_volume, root_mount, tree_of}
+use Rattle.vfs_model.specs.declared.namespace.Mount.{Mount}
+use Rattle.vfs_model.specs.declared.namespace.RomImage.{RomImage}
+use Rattle.vfs_model.specs.declared.world.FileState.TheVariants as file
+
+all-same : {X : Type 0} (count : ℕ) (x : X) (place : ℕ) → slice_index_or (replicate count x) place x ≡ x
+all-same zero x place = refl
+all-same (suc count) x zero = refl
+all-same (suc count) x (suc place) = all-same count x place
+
+empty-closed : {X : Type 0} (is_dir : Option X → Bool) → IsClosedTree is_dir []
+empty-closed is_dir = record { sorted = tt; rootless = refl; parents = λ front name h. absurd (cc); bounded = omega arith }
+
+opened-keeps : (shapes : List VolumeShape) (place : ℕ) → (slice_index_or (map opening_volume shapes) place no_volume).kept ≡ []
+opened-keeps [] place = refl
+opened-keeps (shape ∷ shapes) zero = refl
+opened-keeps (shape ∷ shapes) (suc place) = opened-keeps shapes place
+
+length-of-replicate : {X : Type 0} (count : ℕ) (x : X) → length (replicate count x) ≡ count
+length-of-replicate zero x = refl
+length-of-replicate (suc count) x = ap suc (length-of-replicate count x)
+
+opened-spares : (shapes : List VolumeShape) (place : ℕ) →
+    length (slice_index_or (map opening_volume shapes) place no_volume).spare ≡ length (slice_index_or (map opening_volume shapes) place no_volume).pages
+opened-spares [] place = refl
+opened-spares (shape ∷ shapes) zero = length-of-replicate (length shape.pages) true
+opened-spares (shape ∷ shapes) (suc place) = opened-spares shapes place
+
+in-range : {X : Type 0} (count : ℕ) (x d : X) (place : ℕ) → place < count → slice_index_or (replicate count x) place d ≡ x
+in-range zero x d place l = absurd (omega arith)
+in-range (suc count) x d zero l = refl
+in-range (suc count) x d (suc place) l = in-range count x d place (omega arith)
+
+opened-spare : (shapes : List VolumeShape) (place cell : ℕ) → cell < length (slice_index_or (map opening_volume shapes) place no_volume).pages →
+    slice_index_or (slice_index_or (map opening_volume shapes) place no_volume).spare cell false ≡ true
+opened-spare [] place cell l = absurd (omega arith)
+opened-spare (shape ∷ shapes) zero cell l = in-range (length shape.pages) true false cell l
+opened-spare (shape ∷ shapes) (suc place) cell l = opened-spare shapes place cell l
+
+opened-device : (shapes : List CharsShape) (place : ℕ) → (slice_index_or (map opening_device shapes) place no_device).is_out ≡ false
+opened-device [] place = refl
+opened-device (shape ∷ shapes) zero = refl
+opened-device (shape ∷ shapes) (suc place) = opened-device shapes place
+
+one-place : (place : ℕ) (mount d : Mount) → place < 1 → slice_index_or (mount ∷ []) place d ≡ mount
+one-place zero mount d l = refl
+one-place (suc place) mount d l = absurd (omega arith)
+
+module _ (roms : List RomImage) (describe : Describe) where
+  no-life : (row : ℕ) → life_at (opening_namespace roms describe) row ≡ None
+  unfolding opening_namespace
+  no-life row = all-same 1024 None (row - 1)
+
+  no-tree : (number : ℕ) → tree_of (opening_namespace roms describe) number ≡ []
+  unfolding opening_namespace
+  no-tree number = all-same 16 [] number
+
+  no-reference : (place : ℕ) → slice_index_or (opening_namespace roms describe).references place None ≡ None
+  unfolding opening_namespace
+  no-reference place = all-same 256 None place
+
+  no-node : (number : ℕ) (path : Path) → value_at path_cmp path (tree_of (opening_namespace roms describe) number) ≡ None
+  no-node number path = ap (value_at path_cmp path) (no-tree number)
+
+  at-root : (k : ℕ) → folder_of (opening_namespace roms describe) k ≡ []
+  unfolding opening_namespace
+  at-root k = all-same 8 [] (k - 1)
+
+  rows-agree : (row : ℕ) → agrees (life_at (opening_namespace roms describe) row) (generation_at (opening_namespace roms describe) row) (file_at (opening_world roms describe) row) ≡ true
+  unfolding opening_namespace opening_world
+  rows-agree row =
+      ap (λ life. agrees life (generation_at (opening_namespace roms describe) row) (file_at (opening_world roms describe) row)) (all-same 1024 None (row - 1))
+      ∙ ap (λ generation. agrees None generation (file_at (opening_world roms describe) row)) (all-same 1024 0 (row - 1))
+      ∙ ap (agrees None 0) (all-same 1024 (file.Unbound 0) (row - 1))
+
+  references-live : ReferencesLive (opening_namespace roms describe)
+  references-live = record {
+    linked = λ number path id kind h. let none = no-node number path in absurd (cc);
+    held = λ place reference h. let none = no-reference place in absurd (cc);
+  }
+
+  rows-used : RowsUsed (opening_namespace roms describe)
+  rows-used = record {
+    used = λ row h. let none : is_some (life_at (opening_namespace roms describe) row) ≡ false = ap is_some (no-life row) in absurd (cc);
+    alone = λ number other p q id same kind like h k e. let none = no-node number p in absurd (cc);
+  }
+
+  folders-stand : FoldersStand (opening_namespace roms describe)
+  unfolding opening_namespace node_at covering_mount
+  folders-stand = record {
+    folders = λ k. ap (is_folder (opening_namespace roms describe)) (at-root k);
+    short = λ k. rw (at-root k) (omega arith);
+    root = (refl, refl);
+    points = λ place d l. absurd (omega arith);
+    points_differ = λ place other d l m e. omega arith;
+    numbers_differ = λ place other d l m e. omega arith;
+    numbers = λ place d l. rw (one-place place root_mount d l) (omega arith);
+  }
+
+  boxes-placed : BoxesPlaced (opening_namespace roms describe)
+  unfolding opening_namespace
+  boxes-placed = record {
+    cells = λ volume cell v c. rw (opened-keeps describe.volumes volume, opened-spare describe.volumes volume cell c) refl;
+    spares = λ volume. opened-spares describe.volumes volume;
+    devices = λ device d. sym (ap one_if (opened-device describe.chars device));
+    kinds = λ row. ap fits_kind (all-same 1024 None (row - 1));
+    mounted = λ volume h. opened-keeps describe.volumes volume;
+    kept = λ volume. subst (IsClosedTree is_kept_dir) (sym (opened-keeps describe.volumes volume)) (empty-closed is_kept_dir);
+  }
+
+  sizes : HasSizes (opening_world roms describe)
+  unfolding opening_namespace opening_world
+  sizes = record { files = refl; lives = refl; generations = refl; trees = refl; folders = refl; mounts = omega arith }
+
+  pub opening-consistent : IsConsistent (opening_world roms describe)
+  unfolding opening_world opening_namespace
+  opening-consistent = record {
+    rows_agree = rows-agree;
+    references_live = references-live;
+    rows_used = rows-used;
+    references_bounded = refl;
+    folders_stand = folders-stand;
+    trees_closed = λ number. subst (IsClosedTree is_dir_node) (sym (no-tree number)) (empty-closed is_dir_node);
+    boxes_placed = boxes-placed;
+    sizes = sizes;
+  }
