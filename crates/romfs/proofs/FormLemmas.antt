@@ -13,9 +13,9 @@ use Rattle.vfs_base.specs.Name.{slash}
 use Rattle.vfs_base.specs.declared.limits.TheConstants.{PATH_MAX}
 use Rattle.vfs_base.specs.Path.{Path, printed, slashed}
 use Rattle.vfs_model.specs.Manifest.{Draft, rom_path, rom_bytes, is_space, behind_space, first_bytes, with_item, with_more, with_folder, with_file, with_bytes, with_line, or_bad_line, items_from, manifest_tree}
+use Rattle.vfs_model.specs.NormalPath.{parts_of, parent_of}
 use Rattle.vfs_model.specs.Rom.{RomItems, IsRom, IsRomPath, is_rom_name, is_rom_folder}
 use Rattle.vfs_model.specs.Script.{input_lines}
-use Rattle.vfs_model.specs.NormalPath.{parts_of, parent_of}
 use Rattle.romfs.proofs.RomLemmas.{IsRom-with_item, IsRom-with_more}
 use Rattle.romfs.proofs.SplitLemmas.{is_value}
 

@@ -21,8 +21,8 @@ use Rattle.vfs_base.specs.declared.limits.TheConstants.{NODES}
 use Rattle.vfs_base.specs.PathLaws.{path_cmp_total, path_cmp_exact}
 use Rattle.hex.specs.Hex.{IsBytes}
 use Rattle.vfs_model.specs.Manifest.{with_item, with_more}
-use Rattle.vfs_model.specs.Rom.{RomItems, IsRom, IsRomPath, item_at, file_at, is_rom_folder}
 use Rattle.vfs_model.specs.NormalPath.{parent_of}
+use Rattle.vfs_model.specs.Rom.{RomItems, IsRom, IsRomPath, item_at, file_at, is_rom_folder}
 
 module _ {K X : Type 0} {R : K → K → Ordering} (o : IsTotalOrder R) where
   sorted-insert_entry : (k : K) (v : X) (es : List (K × X)) → IsStrictlySortedBy R (keys_of es) → IsStrictlySortedBy R (keys_of (insert_entry R es k v))

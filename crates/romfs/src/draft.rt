@@ -3,8 +3,8 @@
 ghost use Rattle.std.specs.Prelude.{◌≡◌, [], ◌++◌, is_some, IfOk, Some, None, option_map, if◌then◌else◌};
 ghost use Rattle.std.specs.Option.{option_copied};
 ghost use Rattle.vfs_model.specs.Manifest.{with_item, with_more, first_bytes};
-ghost use Rattle.vfs_model.specs.Rom.{is_rom_folder};
 ghost use Rattle.vfs_model.specs.NormalPath.{parent_of};
+ghost use Rattle.vfs_model.specs.Rom.{is_rom_folder};
 
 use crate::field::{read_bytes, read_path, split_once};
 use std::alloc::Global;

@@ -1,12 +1,12 @@
-//! The parts of a manifest's line.
+//! The lines of a manifest, and their fields.
 
 ghost use Rattle.std.specs.Prelude.{◌≡◌, ◌==◌, ◌<◌, ◌∷◌, length, IfOk, Some, None, if◌then◌else◌};
 ghost use Rattle.std.specs.List.{list_all, list_any, position, before_first, after_first};
 ghost use Rattle.std.specs.Option.{option_copied};
-ghost use Rattle.vfs_model.specs.Script.{input_lines, without_return};
 ghost use Rattle.vfs_model.specs.Manifest.{rom_path, rom_bytes};
 ghost use Rattle.vfs_model.specs.NormalPath.{parts_of};
 ghost use Rattle.vfs_model.specs.Rom.{is_rom_byte, is_rom_name};
+ghost use Rattle.vfs_model.specs.Script.{input_lines, without_return};
 
 use hex::FromHexError;
 use std::alloc::Global;

@@ -8,9 +8,9 @@ use Rattle.std.specs.Result.{result_ok}
 use Rattle.hex.specs.Hex.{decode_of, encode_lower}
 use Rattle.vfs_base.specs.Path.{Path, printed, path_cmp}
 use Rattle.vfs_base.specs.declared.limits.TheConstants.{NODES, PATH_MAX}
+use Rattle.vfs_model.specs.NormalPath.{parts_of, is_slash, parent_of}
 use Rattle.vfs_model.specs.Rom.{RomItems, item_at, file_at, is_rom_folder, is_rom_name}
 use Rattle.vfs_model.specs.Script.{input_lines}
-use Rattle.vfs_model.specs.NormalPath.{parts_of, is_slash, parent_of}
 
 -- the path that the text prints, if a manifest may have it: behind a first slash stand names, and a
 -- slash between one and the next
