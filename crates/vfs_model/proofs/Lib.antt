@@ -4,8 +4,10 @@ pub mod DeviceExamples
 pub mod EmptyMounts
 pub mod ExampleSteps
 pub mod Examples
+pub mod MarkExamples
 pub mod MountLaws
 pub mod MovedLaws
+pub mod MountsApart
 pub mod NodeLaws
 pub mod NormalPaths
 pub mod OpeningLaws

@@ -47,7 +47,8 @@ is_number n number = list_any (λ mount. mount.number == number) (all_mounts n)
 
 -- each linked file and each file of a reference is live; a reference and its file name one mount, and it stands
 pub record ReferencesLive (n : Namespace) : Type 0 where
-  pub linked : (number : ℕ) (path : Path) (id : FileId) (kind : Kind) → value_at path_cmp path (tree_of n number) ≡ Some (node.File id kind) → IsLive n id kind number
+  pub linked : (number : ℕ) (path : Path) (id : FileId) (kind : Kind) →
+      value_at path_cmp path (tree_of n number) ≡ Some (node.File id kind) → IsLive n id kind number
   pub held : (place : ℕ) (reference : Reference) → slice_index_or n.references place None ≡ Some reference →
       IsLive n reference.file reference.kind reference.mount × (is_number n reference.mount ≡ true)
 
@@ -55,7 +56,8 @@ pub record ReferencesLive (n : Namespace) : Type 0 where
 pub record RowsUsed (n : Namespace) : Type 0 where
   pub used : (row : ℕ) → is_some (life_at n row) ≡ true → (is_linked n row || is_held n row) ≡ true
   pub alone : (number other : ℕ) (p q : Path) (id same : FileId) (kind like : Kind) →
-      value_at path_cmp p (tree_of n number) ≡ Some (node.File id kind) → value_at path_cmp q (tree_of n other) ≡ Some (node.File same like) →
+      value_at path_cmp p (tree_of n number) ≡ Some (node.File id kind) →
+      value_at path_cmp q (tree_of n other) ≡ Some (node.File same like) →
       id.row ≡ same.row → (number ≡ other) × (p ≡ q)
 
 -- the mount that covers a point, but for the mounts of the point itself

@@ -124,4 +124,6 @@ change_row w (change.Free freed ending) =
 
 -- no bytes lie on the cells of a volume
 abbrev pub with_empty_cells : Homes → ℕ → Homes
-with_empty_cells homes volume = record homes { cells = slice_set homes.cells volume (map (λ bytes. []) (slice_index_or homes.cells volume [])) }
+with_empty_cells homes volume =
+    let emptied : List (List ℕ) = map (λ bytes. []) (slice_index_or homes.cells volume []) in
+    record homes { cells = slice_set homes.cells volume emptied }

@@ -122,7 +122,8 @@ io_change io (change.Free freed ending) = io_free io freed.row ending
 abbrev pub io_format : World → IoState → Step → Reply → IoState
 io_format w io (step.Mkfs name) answer =
     let volume = volume_named w.namespace name in
-    if is_done answer then record io { stored = slice_set io.stored volume (map (λ pages. []) (slice_index_or io.stored volume [])) } else io
+    let emptied : List (List ℕ) = map (λ pages. []) (slice_index_or io.stored volume []) in
+    if is_done answer then record io { stored = slice_set io.stored volume emptied } else io
 io_format w io _ answer = io
 
 abbrev pub io_on : World → IoState → Asked → Option ℕ → IoState

@@ -1,5 +1,5 @@
 -- The laws of the definitions, each proved once for all who stand on them.
-use Rattle.std.specs.Prelude.{◌≡◌, ℕ, ◌≤◌, ◌<◌, ◌≢◌, Bool, true, false, not, ◌&&◌, ◌==◌, ◌++◌, drop, filter, Ok, Some, None, List, [], ◌∷◌, length, slice_index_or}
+use Rattle.std.specs.Prelude.{◌≡◌, ℕ, ◌≤◌, ◌<◌, ◌≢◌, Bool, true, false, not, ◌&&◌, ◌==◌, ◌++◌, drop, filter, Ok, Some, None, Option, List, [], ◌∷◌, length, slice_index_or}
 use Rattle.std.specs.FinMap.Entries.{find as value_at, is_sorted}
 use Rattle.std.specs.List.{list_all, list_any}
 use Rattle.vfs_base.specs.Name.{is_name}
@@ -53,17 +53,23 @@ CoveringMountIsLongest = (n : Namespace) (path : Path) → n.root.point ≡ [] �
 -- The mount of `/` is there, and no two points have mounts of one number.
 pub record MountsApart (n : Namespace) : Type 0 where
   pub root : n.root.point ≡ []
-  pub own : (p q : Path) → (covering_mount n p).number ≡ (covering_mount n q).number → (covering_mount n p).point ≡ (covering_mount n q).point
+  pub own : (p q : Path) → (covering_mount n p).number ≡ (covering_mount n q).number →
+      (covering_mount n p).point ≡ (covering_mount n q).point
+
+-- this stands at the path now, and what stands at any other path is as before
+abbrev pub ChangesNode : Namespace → Namespace → Path → Option NodeKind → Type 0
+ChangesNode before now path found =
+    (node_at now path ≡ found) × ((other : Path) → other ≢ path → node_at now other ≡ node_at before other)
 
 -- a node put at a path that is no point stands there, and no other path changes
 abbrev pub PutNodeStands : Type 0
-PutNodeStands = (n : Namespace) (path : Path) (new : NodeKind) → MountsApart n → (covering_mount n path).number < length n.trees → rest_of n path ≢ [] →
-    (node_at (with_node n path new) path ≡ Some new) × ((other : Path) → other ≢ path → node_at (with_node n path new) other ≡ node_at n other)
+PutNodeStands = (n : Namespace) (path : Path) (new : NodeKind) → MountsApart n →
+    (covering_mount n path).number < length n.trees → rest_of n path ≢ [] → ChangesNode n (with_node n path new) path (Some new)
 
 -- a node taken away at a path that is no point is gone, and no other path changes
 abbrev pub TakenNodeIsGone : Type 0
-TakenNodeIsGone = (n : Namespace) (path : Path) → MountsApart n → (covering_mount n path).number < length n.trees → rest_of n path ≢ [] →
-    (node_at (without_node n path) path ≡ None) × ((other : Path) → other ≢ path → node_at (without_node n path) other ≡ node_at n other)
+TakenNodeIsGone = (n : Namespace) (path : Path) → MountsApart n →
+    (covering_mount n path).number < length n.trees → rest_of n path ≢ [] → ChangesNode n (without_node n path) path None
 
 -- a name that a text can lead to: neither `.` nor `..`
 abbrev pub is_normal_name : List ℕ → Bool
@@ -71,8 +77,8 @@ is_normal_name name = is_name name && not (is_dot name) && not (is_dot_dot name)
 
 -- a normal path has no part that is empty, `.` or `..`, where the folder that it starts from has none
 abbrev pub NormalPathHasNormalNames : Type 0
-NormalPathHasNormalNames = (folder : Path) (text : List ℕ) (path : Path) → list_all is_normal_name folder ≡ true → normal_path folder text ≡ Ok path →
-    (list_all is_normal_name path ≡ true) × (length (printed path) ≤ 1024)
+NormalPathHasNormalNames = (folder : Path) (text : List ℕ) (path : Path) → list_all is_normal_name folder ≡ true →
+    normal_path folder text ≡ Ok path → (list_all is_normal_name path ≡ true) × (length (printed path) ≤ 1024)
 
 -- the printed form of a normal path names it again, from any folder on
 abbrev pub PrintedPathNamesItself : Type 0
@@ -87,43 +93,47 @@ with_mount n mount tree = with_tree (record n { mounts = n.mounts ++ mount ∷ [
 abbrev pub without_mount : Namespace → ℕ → Namespace
 without_mount n number = with_tree (record n { mounts = filter (λ other. not (other.number == number)) n.mounts }) number []
 
+-- no mount's point is the path or lies below it
+abbrev pub HasNoPoint : Namespace → Path → Type 0
+HasNoPoint n path = list_any (λ mount. is_prefix path mount.point) (all_mounts n) ≡ false
+
 -- At and below its point a new mount shows its own tree, and what stands at any other path stays: where no mount's
 -- point is its point or lies below it, and none has its number.
 abbrev pub MountShowsItsTree : Type 0
 MountShowsItsTree = (n : Namespace) (mount : Mount) (tree : Tree) (path : Path) → n.root.point ≡ [] →
-    list_any (λ other. is_prefix mount.point other.point) (all_mounts n) ≡ false →
-    list_any (λ other. other.number == mount.number) (all_mounts n) ≡ false → mount.number < length n.trees →
+    HasNoPoint n mount.point → list_any (λ other. other.number == mount.number) (all_mounts n) ≡ false → mount.number < length n.trees →
     (is_prefix mount.point path ≡ true → node_at (with_mount n mount tree) path ≡ node_in tree (drop (length mount.point) path))
     × (is_prefix mount.point path ≡ false → node_at (with_mount n mount tree) path ≡ node_at n path)
 
 -- a mount that goes changes no path that another mount covers
 abbrev pub UnmountLeavesOtherMounts : Type 0
-UnmountLeavesOtherMounts = (n : Namespace) (number : ℕ) (path : Path) → n.root.number ≢ number → (covering_mount n path).number ≢ number →
-    node_at (without_mount n number) path ≡ node_at n path
+UnmountLeavesOtherMounts = (n : Namespace) (number : ℕ) (path : Path) → n.root.number ≢ number →
+    (covering_mount n path).number ≢ number → node_at (without_mount n number) path ≡ node_at n path
 
--- In a tree whose subtree has moved stands, at and below new, what stood at and below old; at and below old nothing
--- stands, but for what is new; and what stands at any other path stays. No node may stand below new before.
+-- At and below new stands what stood at and below old, at old nothing stands any more but what is new, and what
+-- stands at any other path stays: `before` and `now` tell what stood and what stands at a path.
+abbrev pub MovesNodes : (Path → Option NodeKind) → (Path → Option NodeKind) → Path → Path → Type 0
+MovesNodes before now old new =
+    ((rest : Path) → now (new ++ rest) ≡ before (old ++ rest))
+    × ((path : Path) → is_prefix new path ≡ false → is_prefix old path ≡ true → now path ≡ None)
+    × ((path : Path) → is_prefix new path ≡ false → is_prefix old path ≡ false → now path ≡ before path)
+
+-- a subtree moves within a tree, where no node lies below new
 abbrev pub MovedSubtreeStands : Type 0
-MovedSubtreeStands = (old new : Path) (tree : Tree) → is_sorted path_cmp tree ≡ true → list_any (λ entry. is_below new entry.0) tree ≡ false →
-    ((rest : Path) → value_at path_cmp (new ++ rest) (moved old new tree) ≡ value_at path_cmp (old ++ rest) tree)
-    × ((path : Path) → is_prefix new path ≡ false → is_prefix old path ≡ true → value_at path_cmp path (moved old new tree) ≡ None)
-    × ((path : Path) → is_prefix new path ≡ false → is_prefix old path ≡ false → value_at path_cmp path (moved old new tree) ≡ value_at path_cmp path tree)
+MovedSubtreeStands = (old new : Path) (tree : Tree) → is_sorted path_cmp tree ≡ true →
+    list_any (λ entry. is_below new entry.0) tree ≡ false →
+    MovesNodes (λ path. value_at path_cmp path tree) (λ path. value_at path_cmp path (moved old new tree)) old new
 
--- A rename within a mount: at and below new stands what stood at and below old, nothing stands at old any more, and
--- what stands at any other path stays. No mount's point is old or new or lies below one of them, and new has no nodes.
+-- a rename within a mount, where no point is old or new or lies below one of them, and no node lies below new
 abbrev pub RenamedSubtreeStands : Type 0
-RenamedSubtreeStands = (n : Namespace) (old new : Path) → MountsApart n → (covering_mount n old).number ≡ (covering_mount n new).number →
-    (covering_mount n old).number < length n.trees → is_sorted path_cmp (tree_of n (covering_mount n old).number) ≡ true →
-    list_any (λ mount. is_prefix old mount.point) (all_mounts n) ≡ false → list_any (λ mount. is_prefix new mount.point) (all_mounts n) ≡ false →
-    has_nodes n new ≡ false →
-    ((rest : Path) → node_at (with_moved n old new) (new ++ rest) ≡ node_at n (old ++ rest))
-    × ((path : Path) → is_prefix new path ≡ false → is_prefix old path ≡ true → node_at (with_moved n old new) path ≡ None)
-    × ((path : Path) → is_prefix new path ≡ false → is_prefix old path ≡ false → node_at (with_moved n old new) path ≡ node_at n path)
+RenamedSubtreeStands = (n : Namespace) (old new : Path) → MountsApart n →
+    (covering_mount n old).number ≡ (covering_mount n new).number → (covering_mount n old).number < length n.trees →
+    is_sorted path_cmp (tree_of n (covering_mount n old).number) ≡ true → HasNoPoint n old → HasNoPoint n new →
+    has_nodes n new ≡ false → MovesNodes (node_at n) (node_at (with_moved n old new)) old new
 
 -- a mount without nodes, on a folder without nodes, changes no path
 abbrev pub EmptyMountChangesNoNode : Type 0
-EmptyMountChangesNoNode = (n : Namespace) (mount : Mount) (path : Path) → MountsApart n →
-    list_any (λ other. is_prefix mount.point other.point) (all_mounts n) ≡ false →
+EmptyMountChangesNoNode = (n : Namespace) (mount : Mount) (path : Path) → MountsApart n → HasNoPoint n mount.point →
     list_any (λ other. other.number == mount.number) (all_mounts n) ≡ false → mount.number < length n.trees →
     node_at n mount.point ≡ Some node.Dir → has_nodes n mount.point ≡ false →
     node_at (with_mount n mount []) path ≡ node_at n path

@@ -3,6 +3,7 @@ pub mod Boxes
 pub mod Cache
 pub mod Chain
 pub mod Consistency
+pub mod ConsistencyLaws
 pub mod Content
 pub mod FileLife
 pub mod FileMoves
@@ -21,7 +22,6 @@ pub mod NamespaceOutcome
 pub mod NamespaceStep
 pub mod NormalPath
 pub mod OpenStep
-pub mod OpeningLaw
 pub mod ReferenceSteps
 pub mod RenameStep
 pub mod Rom

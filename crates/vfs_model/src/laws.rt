@@ -1,6 +1,6 @@
 //! The laws of the definitions: each function states one, and does nothing.
 
-ghost use Rattle.vfs_model.specs.OpeningLaw.{OpeningWorldIsConsistent};
+ghost use Rattle.vfs_model.specs.ConsistencyLaws.{OpeningWorldIsConsistent, StandingMountsAreApart};
 ghost use Rattle.vfs_model.specs.Laws.{RefusedStepChangesNothing, WorkerChangesNothing, CoveringMountIsLongest, RefusedWorldStaysSame, PutNodeStands, TakenNodeIsGone, NormalPathHasNormalNames, PrintedPathNamesItself, MountShowsItsTree, UnmountLeavesOtherMounts, MovedSubtreeStands, RenamedSubtreeStands, EmptyMountChangesNoNode};
 
 /// A step of the namespace that is refused changes neither the namespace nor a row; Shutdown apart.
@@ -71,4 +71,9 @@ pub fn opening_world_is_consistent()
 /// A mount without nodes, on a folder without nodes, changes no path.
 pub fn empty_mount_changes_no_node()
     ensures { EmptyMountChangesNoNode }
+{}
+
+/// In a consistent world no two points have mounts of one number.
+pub fn standing_mounts_are_apart()
+    ensures { StandingMountsAreApart }
 {}
