@@ -6,8 +6,8 @@ use Rattle.vfs_base.specs.declared.entry.Mark.{Mark}
 use Rattle.vfs_base.specs.declared.reply.Reply.{Reply}
 use Rattle.vfs_model.specs.Line.{form_of}
 use Rattle.vfs_model.specs.Shown.{block, bad_line_text, reply_text}
-use Rattle.vfs_model.specs.Transcript.{one_step, turn_of, take_line, shown_by, shown_after}
-use Rattle.vfs_model.specs.Transcript.Turn.{Finished}
+use Rattle.vfs_model.specs.FirstTranscript.{one_step, turn_of, take_line, shown_by, shown_after}
+use Rattle.vfs_model.specs.FirstTranscript.Turn.{Finished}
 use Rattle.vfs_model.specs.Tree.{Tree, Outcome}
 use Rattle.vfs_model.specs.declared.form.LineForm.{LineForm}
 use Rattle.vfs_model.specs.declared.form.LineForm.TheVariants as form

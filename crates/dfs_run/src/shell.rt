@@ -3,8 +3,8 @@
 ghost use Rattle.std.specs.Prelude.{◌≡◌, List, [], ◌∷◌, ◌++◌, IfOk, OnOk, OnErr, Some};
 ghost use Rattle.vfs_base.specs.declared.entry.Entry.{Entry};
 ghost use Rattle.vfs_model.specs.Shown.{block, reply_text};
-ghost use Rattle.vfs_model.specs.Transcript.{turn_of};
-ghost use Rattle.vfs_model.specs.Transcript.Turn.{Finished};
+ghost use Rattle.vfs_model.specs.FirstTranscript.{turn_of};
+ghost use Rattle.vfs_model.specs.FirstTranscript.Turn.{Finished};
 ghost use Rattle.vfs_model.specs.Tree.{opening_tree};
 ghost use Rattle.dfs_run.specs.Serving.{GivesUp, RunsLine, shutdown, steps_of};
 

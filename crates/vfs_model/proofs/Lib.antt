@@ -14,6 +14,7 @@ pub mod OpeningLaws
 pub mod RefusalExamples
 pub mod RefusedSteps
 pub mod RenameLaws
+pub mod ScriptExamples
 pub mod Trees
 pub mod WorkerLaws
 pub mod WorldLaws

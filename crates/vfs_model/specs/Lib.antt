@@ -5,9 +5,11 @@ pub mod Chain
 pub mod Consistency
 pub mod ConsistencyLaws
 pub mod Content
+pub mod Deck
 pub mod FileLife
 pub mod FileMoves
 pub mod FileStep
+pub mod FirstTranscript
 pub mod Holders
 pub mod Homes
 pub mod IoTotals
@@ -21,6 +23,7 @@ pub mod Namespace
 pub mod NamespaceOutcome
 pub mod NamespaceStep
 pub mod NormalPath
+pub mod Numeral
 pub mod OpenStep
 pub mod ReferenceSteps
 pub mod RenameStep
@@ -28,8 +31,8 @@ pub mod Rom
 pub mod Schedule
 pub mod Script
 pub mod Shown
+pub mod Soak
 pub mod Tables
-pub mod Transcript
 pub mod Tree
 pub mod UmountSteps
 pub mod Words
