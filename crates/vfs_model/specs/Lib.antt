@@ -15,12 +15,14 @@ pub mod Laws
 pub mod Line
 pub mod Lookup
 pub mod Manifest
+pub mod Mappings
 pub mod MountStep
 pub mod NameSteps
 pub mod Namespace
 pub mod NamespaceOutcome
 pub mod NamespaceStep
 pub mod NormalPath
+pub mod OpenFiles
 pub mod OpenStep
 pub mod ReferenceSteps
 pub mod RenameStep
@@ -29,6 +31,7 @@ pub mod Schedule
 pub mod Script
 pub mod Shown
 pub mod Tables
+pub mod Talk
 pub mod Transcript
 pub mod Tree
 pub mod UmountSteps
