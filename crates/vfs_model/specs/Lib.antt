@@ -17,6 +17,7 @@ pub mod Laws
 pub mod Line
 pub mod Lookup
 pub mod Manifest
+pub mod Mappings
 pub mod MountStep
 pub mod NameSteps
 pub mod Namespace
@@ -24,6 +25,7 @@ pub mod NamespaceOutcome
 pub mod NamespaceStep
 pub mod NormalPath
 pub mod Numeral
+pub mod OpenFiles
 pub mod OpenStep
 pub mod ReferenceSteps
 pub mod RenameStep
@@ -33,6 +35,7 @@ pub mod Script
 pub mod Shown
 pub mod Soak
 pub mod Tables
+pub mod Talk
 pub mod Tree
 pub mod UmountSteps
 pub mod Words

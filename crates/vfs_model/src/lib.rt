@@ -8,6 +8,7 @@ mod cache;
 mod form;
 pub mod laws;
 mod namespace;
+mod shell_state;
 mod world;
 
 pub use cache::{CacheState, DeviceCall, Resident};
@@ -16,4 +17,5 @@ pub use namespace::{
     Backing, DeviceState, End, KeptNode, LiveFile, Mount, Namespace, Origin, Reference, Role,
     RomImage, RomNode, RowChange, Tree, VolumeState,
 };
+pub use shell_state::{Next, OpenFile, OpenFiles, ShellState, Whence, Window};
 pub use world::{DeviceHome, FileState, Homes, World};
