@@ -1,4 +1,6 @@
 pub mod CacheExamples
+pub mod CommandExamples
+pub mod CommandRuns
 pub mod CoveringMounts
 pub mod DeviceExamples
 pub mod EmptyMounts
@@ -6,8 +8,8 @@ pub mod ExampleSteps
 pub mod Examples
 pub mod MarkExamples
 pub mod MountLaws
-pub mod MovedLaws
 pub mod MountsApart
+pub mod MovedLaws
 pub mod NodeLaws
 pub mod NormalPaths
 pub mod OpeningLaws

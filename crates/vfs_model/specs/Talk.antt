@@ -1,5 +1,6 @@
 -- What a shell does from one step to the next: it asks a step, and goes on with the reply.
-use Rattle.std.specs.Prelude.{ℕ, List, [], ◌∷◌}
+use Rattle.std.specs.Prelude.{ℕ, List, [], ◌∷◌, Result, Ok, Err}
+use Rattle.vfs_base.specs.declared.errno.Errno.{Errno}
 use Rattle.vfs_base.specs.declared.reply.Reply.{Reply}
 use Rattle.vfs_base.specs.declared.step.Step.{Step}
 use Rattle.vfs_model.specs.declared.shell_state.Next.{Next}
@@ -52,3 +53,8 @@ abbrev pub ask_in_turn : {S : Type 0} → List Step → (S → Step) → (S → 
 ask_in_turn own step round stage state [] = record { next = next.Ask (step stage); state = state; own = own; left = [] }
 ask_in_turn own step round stage state (reply ∷ replies) =
     round_talk (λ later now behind. ask_in_turn own step round later state replies) (round stage reply) state replies
+
+-- goes on with what checks leave, or else with the first error
+abbrev pub checked : {X : Type 0} → (Errno → Talk) → Result X Errno → (X → Talk) → Talk
+checked refused (Ok x) go = go x
+checked refused (Err errno) go = refused errno
