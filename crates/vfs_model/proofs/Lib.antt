@@ -1,3 +1,4 @@
+pub mod BlockLemmas
 pub mod CacheExamples
 pub mod CommandExamples
 pub mod CommandRuns
@@ -16,7 +17,12 @@ pub mod OpeningLaws
 pub mod RefusalExamples
 pub mod RefusedSteps
 pub mod RenameLaws
+pub mod ScheduleLemmas
+pub mod ScheduleReading
 pub mod ScriptExamples
+pub mod TranscriptLemmas
 pub mod Trees
+pub mod TurnLemmas
+pub mod UntakenLemmas
 pub mod WorkerLaws
 pub mod WorldLaws

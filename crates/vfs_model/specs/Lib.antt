@@ -40,11 +40,15 @@ pub mod RenameStep
 pub mod Rom
 pub mod Schedule
 pub mod Script
+pub mod Session
 pub mod Shown
 pub mod Soak
 pub mod Tables
 pub mod Talk
+pub mod Transcript
+pub mod TranscriptLaws
 pub mod Tree
+pub mod Turns
 pub mod UmountSteps
 pub mod Words
 pub mod World

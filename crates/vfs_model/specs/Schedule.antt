@@ -1,5 +1,5 @@
 -- How a schedule is printed, and how a printed one is read.
-use Rattle.std.specs.Prelude.{ℕ, ◌+◌, ◌-◌, ◌^◌, ◌==◌, ◌||◌, ◌&&◌, Bool, true, false, not, Option, Some, None, option_map, Result, Ok, Err, List, [], ◌∷◌, ◌++◌, take, drop, if◌then◌else◌}
+use Rattle.std.specs.Prelude.{ℕ, ◌+◌, ◌-◌, ◌^◌, ◌==◌, ◌||◌, Bool, true, false, Option, Some, None, option_map, Result, Ok, Err, List, [], ◌∷◌, ◌++◌, take, drop, if◌then◌else◌}
 use Rattle.std.specs.List.{flat_map, position_or_len, slice_split}
 use Rattle.vfs_base.specs.Entry.{entry_text}
 use Rattle.vfs_base.specs.declared.entry.Entry.{Entry}
@@ -102,8 +102,8 @@ is_end (who.Flush row) = false
 is_end (who.Reclaim row) = false
 is_end who.End = true
 
--- the end is taken last, and nowhere else
-abbrev pub is_whole : List Entry → Bool
-is_whole [] = false
-is_whole (entry ∷ []) = is_end entry.who
-is_whole (entry ∷ next ∷ entries) = not (is_end entry.who) && is_whole (next ∷ entries)
+-- the end is taken last
+abbrev pub is_end_last : List Entry → Bool
+is_end_last [] = false
+is_end_last (entry ∷ []) = is_end entry.who
+is_end_last (entry ∷ next ∷ entries) = is_end_last (next ∷ entries)

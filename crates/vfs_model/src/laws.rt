@@ -2,6 +2,7 @@
 
 ghost use Rattle.vfs_model.specs.ConsistencyLaws.{OpeningWorldIsConsistent, StandingMountsAreApart};
 ghost use Rattle.vfs_model.specs.Laws.{RefusedStepChangesNothing, WorkerChangesNothing, CoveringMountIsLongest, RefusedWorldStaysSame, PutNodeStands, TakenNodeIsGone, NormalPathHasNormalNames, PrintedPathNamesItself, MountShowsItsTree, UnmountLeavesOtherMounts, MovedSubtreeStands, RenamedSubtreeStands, EmptyMountChangesNoNode};
+ghost use Rattle.vfs_model.specs.TranscriptLaws.{PrintedScheduleIsRead, TranscriptNeedsEachEntry, UndefinedTranscriptHasPlace, FrontHasTranscript, WholeScheduleEndsLast, ScriptSaysTurns, EachBlockShowsItsLine};
 
 /// A step of the namespace that is refused changes neither the namespace nor a row; Shutdown apart.
 pub fn refused_step_changes_nothing()
@@ -76,4 +77,39 @@ pub fn empty_mount_changes_no_node()
 /// In a consistent world no two points have mounts of one number.
 pub fn standing_mounts_are_apart()
     ensures { StandingMountsAreApart }
+{}
+
+/// A printed schedule reads back as itself, with its line feed and without it.
+pub fn printed_schedule_is_read()
+    ensures { PrintedScheduleIsRead }
+{}
+
+/// A script has a transcript exactly where each entry of the schedule can be taken after those before it.
+pub fn transcript_needs_each_entry()
+    ensures { TranscriptNeedsEachEntry }
+{}
+
+/// Where a script has no transcript, the first entry that can't be taken has the place that is told.
+pub fn undefined_transcript_has_place()
+    ensures { UndefinedTranscriptHasPlace }
+{}
+
+/// A front of a schedule that has a transcript has one.
+pub fn front_has_transcript()
+    ensures { FrontHasTranscript }
+{}
+
+/// A schedule whose entries can be taken is whole exactly where its last entry is the end.
+pub fn whole_schedule_ends_last()
+    ensures { WholeScheduleEndsLast }
+{}
+
+/// In a shell or a replay the script and the marks leave no choice of who takes which step.
+pub fn script_says_turns()
+    ensures { ScriptSaysTurns }
+{}
+
+/// A session's blocks are those of its lines in their order, each after the lines before it.
+pub fn each_block_shows_its_line()
+    ensures { EachBlockShowsItsLine }
 {}

@@ -8,6 +8,7 @@ mod cache;
 mod form;
 pub mod laws;
 mod namespace;
+mod script_form;
 mod shell_state;
 mod world;
 
@@ -17,5 +18,6 @@ pub use namespace::{
     Backing, DeviceState, End, KeptNode, LiveFile, Mount, Namespace, Origin, Reference, Role,
     RomImage, RomNode, RowChange, Tree, VolumeState,
 };
+pub use script_form::ScriptForm;
 pub use shell_state::{Next, OpenFile, OpenFiles, ShellState, Whence, Window};
 pub use world::{DeviceHome, FileState, Homes, World};
