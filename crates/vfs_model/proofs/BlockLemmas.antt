@@ -11,7 +11,7 @@ use Rattle.vfs_model.specs.Command.{line_talk}
 use Rattle.vfs_model.specs.Schedule.{is_end, is_end_last}
 use Rattle.vfs_model.specs.Session.{SessionRun, after_line, block_before, block_of, lines_run, session_run}
 use Rattle.vfs_model.specs.Talk.{Answer}
-use Rattle.vfs_model.specs.Transcript.{RunState, entry_step, has_ended, opening_state, state_after, take_entries, take_entry, take_step}
+use Rattle.vfs_model.specs.ScriptRun.{RunState, entry_step, has_ended, opening_state, state_after, take_entries, take_entry, take_step}
 use Rattle.vfs_model.specs.TranscriptLaws.{EachBlockShowsItsLine, ShowsLine}
 use Rattle.vfs_model.specs.World.{fits_step}
 use Rattle.vfs_model.specs.declared.shell_state.Next.TheVariants as next

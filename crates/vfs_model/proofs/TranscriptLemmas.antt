@@ -5,7 +5,8 @@ use Rattle.std.specs.Option.{option_and_then}
 use Rattle.vfs_base.specs.declared.deck.Deck.{Deck}
 use Rattle.vfs_base.specs.declared.describe.Describe.{Describe}
 use Rattle.vfs_base.specs.declared.entry.Entry.{Entry}
-use Rattle.vfs_model.specs.Transcript.{RunState, opening_state, shown, state_after, take_entries, take_entry, transcript}
+use Rattle.vfs_model.specs.ScriptRun.{RunState, opening_state, state_after, take_entries, take_entry}
+use Rattle.vfs_model.specs.Transcript.{shown, transcript}
 use Rattle.vfs_model.specs.TranscriptLaws.{EachIsTaken, IsDefined, can_take}
 use Rattle.vfs_model.specs.declared.script_form.ScriptForm.{ScriptForm}
 

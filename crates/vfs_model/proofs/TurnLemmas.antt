@@ -6,7 +6,7 @@ use Rattle.vfs_base.specs.declared.entry.Entry.{Entry}
 use Rattle.vfs_base.specs.declared.entry.Mark.{Mark}
 use Rattle.vfs_base.specs.declared.entry.Who.{Who}
 use Rattle.vfs_base.specs.declared.entry.Who.TheVariants as who
-use Rattle.vfs_model.specs.Transcript.{RunState, opening_state, take_entry}
+use Rattle.vfs_model.specs.ScriptRun.{RunState, opening_state, take_entry}
 use Rattle.vfs_model.specs.TranscriptLaws.{marks_of}
 use Rattle.vfs_model.specs.Turns.{Agenda, FollowsScript, Turn, follows_script, keeps_turns, next_turn, opening_agenda, same_who}
 use Rattle.vfs_model.specs.declared.script_form.ScriptForm.TheVariants as form

@@ -5,7 +5,7 @@ use Rattle.std.specs.Option.{option_and_then}
 use Rattle.vfs_base.specs.declared.deck.Deck.{Deck}
 use Rattle.vfs_base.specs.declared.describe.Describe.{Describe}
 use Rattle.vfs_base.specs.declared.entry.Entry.{Entry}
-use Rattle.vfs_model.specs.Transcript.{RunState, first_untaken, opening_state, state_after, take_entries, take_entry, untaken_from}
+use Rattle.vfs_model.specs.ScriptRun.{RunState, first_untaken, opening_state, state_after, take_entries, take_entry, untaken_from}
 use Rattle.vfs_model.specs.TranscriptLaws.{IsFirstUntaken}
 
 -- either all entries can be taken, or there is a first that can't

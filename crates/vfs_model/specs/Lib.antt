@@ -10,6 +10,7 @@ pub mod ConsistencyLaws
 pub mod Content
 pub mod CopyCommands
 pub mod Deck
+pub mod DeckLine
 pub mod FileCommands
 pub mod FileLife
 pub mod FileMoves
@@ -40,9 +41,11 @@ pub mod RenameStep
 pub mod Rom
 pub mod Schedule
 pub mod Script
+pub mod ScriptRun
 pub mod Session
 pub mod Shown
 pub mod Soak
+pub mod Summary
 pub mod Tables
 pub mod Talk
 pub mod Transcript

@@ -1,13 +1,13 @@
 -- A session: its lines one after the other, what it is shown of each, and how it leaves.
-use Rattle.std.specs.Prelude.{ℕ, ◌==◌, Bool, is_some, Option, Some, None, option_map, List, [], ◌∷◌, ◌++◌, length, codes, slice_get, if◌then◌else◌}
+use Rattle.std.specs.Prelude.{ℕ, Bool, is_some, Option, Some, None, option_map, List, [], ◌∷◌, ◌++◌, length, codes, slice_get, if◌then◌else◌}
 use Rattle.std.specs.List.{filter_map, list_any}
 use Rattle.vfs_base.specs.Path.{Path, printed}
 use Rattle.vfs_base.specs.declared.reply.Reply.{Reply}
 use Rattle.vfs_base.specs.declared.step.Step.{Step}
 use Rattle.vfs_base.specs.declared.step.Step.TheVariants as step
 use Rattle.vfs_model.specs.Command.{line_talk, opening_shell}
+use Rattle.vfs_model.specs.CommandText.{whole_lines}
 use Rattle.vfs_model.specs.OpenFiles.{file_numbered, leads_to}
-use Rattle.vfs_model.specs.Script.{last_byte}
 use Rattle.vfs_model.specs.Talk.{Answer}
 use Rattle.vfs_model.specs.declared.shell_state.Next.{Next}
 use Rattle.vfs_model.specs.declared.shell_state.Next.TheVariants as next
@@ -15,14 +15,10 @@ use Rattle.vfs_model.specs.declared.shell_state.OpenFiles.{OpenFiles}
 use Rattle.vfs_model.specs.declared.shell_state.ShellState.{ShellState}
 use Rattle.vfs_model.specs.declared.shell_state.Window.{Window}
 
--- a text that isn't empty ends with a line feed
-abbrev pub ended_text : List ℕ → List ℕ
-ended_text [] = []
-ended_text (byte ∷ bytes) = if last_byte (byte ∷ bytes) == 10 then byte ∷ bytes else byte ∷ bytes ++ 10 ∷ []
-
--- the prompt with the shown folder, the line, a line feed, and the command's text
+-- the prompt with the shown folder, the line, a line feed, and the command's text, which ends with a line feed unless
+-- it is empty
 abbrev pub block_of : Path → List ℕ → List ℕ → List ℕ
-block_of shown line text = codes "msh " ++ printed shown ++ codes ">" ++ line ++ 10 ∷ ended_text text
+block_of shown line text = codes "msh " ++ printed shown ++ codes ">" ++ line ++ 10 ∷ whole_lines text
 
 -- How far the lines of a session have come by its replies so far.
 pub record SessionRun : Type 0 where

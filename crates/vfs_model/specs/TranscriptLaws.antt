@@ -13,7 +13,8 @@ use Rattle.vfs_base.specs.declared.reply.Reply.{Reply}
 use Rattle.vfs_model.specs.Command.{line_talk}
 use Rattle.vfs_model.specs.Schedule.{is_end_last, schedule_entries, schedule_line, schedule_text}
 use Rattle.vfs_model.specs.Session.{SessionRun, block_of, session_run}
-use Rattle.vfs_model.specs.Transcript.{first_untaken, has_ended, shown, state_after, take_entry, transcript}
+use Rattle.vfs_model.specs.ScriptRun.{first_untaken, has_ended, state_after, take_entry}
+use Rattle.vfs_model.specs.Transcript.{shown, transcript}
 use Rattle.vfs_model.specs.Turns.{FollowsScript}
 use Rattle.vfs_model.specs.declared.script_form.ScriptForm.{ScriptForm}
 use Rattle.vfs_model.specs.declared.script_form.ScriptForm.TheVariants as form

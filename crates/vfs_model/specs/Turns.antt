@@ -11,7 +11,7 @@ use Rattle.vfs_base.specs.declared.entry.Who.TheVariants as who
 use Rattle.vfs_base.specs.declared.limits.TheConstants.{SESSIONS}
 use Rattle.vfs_model.specs.Schedule.{is_end_last}
 use Rattle.vfs_model.specs.Session.{SessionRun, exit_step, is_pending, session_run}
-use Rattle.vfs_model.specs.Transcript.{RunState, heard_by, opening_state, sessions, take_entry}
+use Rattle.vfs_model.specs.ScriptRun.{RunState, heard_by, opening_state, sessions, take_entry}
 use Rattle.vfs_model.specs.declared.script_form.ScriptForm.{ScriptForm}
 use Rattle.vfs_model.specs.declared.script_form.ScriptForm.TheVariants as form
 

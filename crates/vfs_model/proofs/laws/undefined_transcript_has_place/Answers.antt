@@ -1,5 +1,5 @@
 use Rattle.std.proofs.Common.{◌∙◌}
-use Rattle.vfs_model.specs.Transcript.{opening_state}
+use Rattle.vfs_model.specs.ScriptRun.{opening_state}
 use Rattle.vfs_model.proofs.TranscriptLemmas.{transcript-defined}
 use Rattle.vfs_model.proofs.UntakenLemmas.{first-untaken, untaken-first, untaken-none}
 use Rattle.vfs_model.proofs.laws.undefined_transcript_has_place.Goals as goal
