@@ -17,10 +17,14 @@ pub mod OpeningLaws
 pub mod RefusalExamples
 pub mod RefusedSteps
 pub mod RenameLaws
+pub mod ScheduleExamples
 pub mod ScheduleLemmas
 pub mod ScheduleReading
 pub mod ScriptExamples
+pub mod SharedFileExamples
+pub mod TranscriptExamples
 pub mod TranscriptLemmas
+pub mod TranscriptRuns
 pub mod Trees
 pub mod TurnLemmas
 pub mod UntakenLemmas
