@@ -4,6 +4,7 @@ pub mod CommandExamples
 pub mod CommandRuns
 pub mod CoveringMounts
 pub mod DeviceExamples
+pub mod DeviceTexts
 pub mod EmptyMounts
 pub mod ExampleSteps
 pub mod Examples

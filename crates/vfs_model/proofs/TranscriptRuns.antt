@@ -46,6 +46,14 @@ shell_text lines line = transcript form.Shell (shell_deck lines) bare (scheduled
 abbrev pub shells : List (List ℕ) → List ℕ → Bool
 shells lines line = follows_script form.Shell (shell_deck lines) bare (scheduled line)
 
+-- what a script shows as a replay on devices
+abbrev pub replay_on : Describe → List (List ℕ) → List ℕ → Option (List ℕ)
+replay_on describe lines line = transcript form.Replay (script lines) describe (scheduled line)
+
+-- what a shell shows for its lines on devices
+abbrev pub shell_on : Describe → List (List ℕ) → List ℕ → Option (List ℕ)
+shell_on describe lines line = transcript form.Shell (shell_deck lines) describe (scheduled line)
+
 -- what an example computes with: a theorem unfolds it by the line `unfolding scripts`
 unfoldable pub scripts : Unit {0}
 unfolding decode_pairs digits deck_of schedule_entries session_run take_entry soak_deck shown transcript soak_summary follows_script
