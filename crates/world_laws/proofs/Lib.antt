@@ -1,0 +1,3 @@
+pub mod FileKeeping
+pub mod Passing
+pub mod WorldKeeping
