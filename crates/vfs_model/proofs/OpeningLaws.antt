@@ -98,7 +98,7 @@ module _ (roms : List RomImage) (describe : Describe) where
 
   rows-used : RowsUsed (opening_namespace roms describe)
   rows-used = record {
-    used = λ row h. let none : is_some (life_at (opening_namespace roms describe) row) ≡ false = ap is_some (no-life row) in absurd (cc);
+    used = λ row l h. let none : is_some (life_at (opening_namespace roms describe) row) ≡ false = ap is_some (no-life row) in absurd (cc);
     alone = λ number other p q id same kind like h k e. let none = no-node number p in absurd (cc);
   }
 

@@ -39,8 +39,9 @@ agrees (Some life) generation (file.Bytes other shape capacity bytes) =
     other == generation && same_kind life.kind shape && not (same_kind shape kind.Chr) && nat_le (length bytes) capacity
 agrees (Some life) generation (file.Device other input output) = other == generation && same_kind life.kind kind.Chr
 
--- the file is live with its generation, as a file of this kind in this mount
+-- the file is live with its generation, as a file of this kind in this mount; rows are counted from 1
 pub record IsLive (n : Namespace) (id : FileId) (kind : Kind) (number : ℕ) : Type 0 where
+  pub row : 0 < id.row
   pub generation : generation_at n id.row ≡ id.generation
   pub life : IsSomeAnd (life_at n id.row) (λ life. (life.kind ≡ kind) × (life.mount ≡ number))
 
@@ -57,7 +58,7 @@ pub record ReferencesLive (n : Namespace) : Type 0 where
 
 -- each live file is linked or held, and no file is linked at two places
 pub record RowsUsed (n : Namespace) : Type 0 where
-  pub used : (row : ℕ) → is_some (life_at n row) ≡ true → (is_linked n row || is_held n row) ≡ true
+  pub used : (row : ℕ) → 0 < row → is_some (life_at n row) ≡ true → (is_linked n row || is_held n row) ≡ true
   pub alone : (number other : ℕ) (p q : Path) (id same : FileId) (kind like : Kind) →
       value_at path_cmp p (tree_of n number) ≡ Some (node.File id kind) →
       value_at path_cmp q (tree_of n other) ≡ Some (node.File same like) →
