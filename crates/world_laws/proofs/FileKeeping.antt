@@ -11,6 +11,7 @@ use Rattle.vfs_base.specs.declared.kinds.Kind.{Kind}
 use Rattle.vfs_base.specs.declared.kinds.Kind.TheVariants as kind
 use Rattle.vfs_base.specs.declared.step.Step.{Step}
 use Rattle.vfs_base.specs.declared.step.Step.TheVariants as step
+use Rattle.vfs_model.specs.Boxes.{file_capacity}
 use Rattle.vfs_model.specs.Chain.{◌>>◌, refuse◌when◌}
 use Rattle.vfs_model.specs.Consistency.{agrees, same_kind}
 use Rattle.vfs_model.specs.FileMoves.{clear_step, file_step, fits_file, is_before_end, is_on_cell, is_on_device, move, move_bytes, move_device, stopped_step}
@@ -141,3 +142,41 @@ file_step-agrees f asked (mark.Fault count) h =
 file_step-agrees f asked (mark.NoMem count) h =
     stopped-agrees f asked errno.ENOMEM count (count == 0) (file_refusals f asked) refl refl
     (and-first (is_before_end f asked count) _ h)
+
+move_bytes-capacity : (generation : ℕ) (kind : Kind) (capacity : ℕ) (bytes : List ℕ) (asked : Step) (count : ℕ) →
+    file_capacity (move_bytes generation kind capacity bytes asked count).next ≡ capacity
+move_bytes-capacity generation kind capacity bytes (step.Size id) count = refl
+move_bytes-capacity generation kind capacity bytes (step.Read id off len) count = refl
+move_bytes-capacity generation kind capacity bytes (step.Load id off len) count = refl
+move_bytes-capacity generation kind capacity bytes (step.Write id off piece) count = refl
+move_bytes-capacity generation kind capacity bytes (step.Store id off piece) count = refl
+move_bytes-capacity generation kind capacity bytes (step.Append id piece) count = refl
+move_bytes-capacity generation kind capacity bytes (step.Trunc id len) count = refl
+move_bytes-capacity generation kind capacity bytes _ count = refl
+
+move_device-capacity : (generation : ℕ) (input output : List ℕ) (asked : Step) (count : ℕ) → file_capacity (move_device generation input output asked count).next ≡ 0
+move_device-capacity generation input output (step.Read id off len) count = refl
+move_device-capacity generation input output (step.Write id off piece) count = refl
+move_device-capacity generation input output (step.Append id piece) count = refl
+move_device-capacity generation input output _ count = refl
+
+move-capacity : (f : FileState) (asked : Step) (count : ℕ) → file_capacity (move f asked count).next ≡ file_capacity f
+move-capacity (file.Unbound generation) asked count = refl
+move-capacity (file.Bytes generation kind capacity bytes) asked count = move_bytes-capacity generation kind capacity bytes asked count
+move-capacity (file.Device generation input output) asked count = move_device-capacity generation input output asked count
+
+stopped-capacity : (f : FileState) (asked : Step) (errno : Errno) (count : ℕ) (none : Bool) →
+    file_capacity (if none then refused_file f errno else move f asked count).next ≡ file_capacity f
+stopped-capacity f asked errno count true = refl
+stopped-capacity f asked errno count false = move-capacity f asked count
+
+clear-capacity : (f : FileState) (asked : Step) (r : Result (Unit {0}) Errno) → file_capacity (clear_step f asked r).next ≡ file_capacity f
+clear-capacity f asked (Ok tt) = move-capacity f asked (moved_count f asked)
+clear-capacity f asked (Err errno) = refl
+
+-- a step leaves the room of a file as it was
+pub file_step-capacity : (f : FileState) (asked : Step) (m : Mark) → file_capacity (file_step f asked m).next ≡ file_capacity f
+unfolding file_step
+file_step-capacity f asked mark.Clear = clear-capacity f asked (file_refusals f asked)
+file_step-capacity f asked (mark.Fault count) = stopped-capacity f asked errno.EIO count (count == 0)
+file_step-capacity f asked (mark.NoMem count) = stopped-capacity f asked errno.ENOMEM count (count == 0)

@@ -1,3 +1,5 @@
 pub mod FileKeeping
+pub mod Lists
 pub mod Passing
+pub mod Standing
 pub mod WorldKeeping
