@@ -1,5 +1,9 @@
+pub mod Beside
+pub mod Binding
 pub mod FileKeeping
 pub mod Lists
 pub mod Passing
+pub mod Referring
 pub mod Standing
+pub mod Taking
 pub mod WorldKeeping

@@ -19,21 +19,27 @@ use Rattle.vfs_model.specs.declared.world.World.{World}
 use Rattle.world_laws.proofs.Lists.{any-node, any-place, node-any, or-either, or-first, or-second, place-any, same-number, number-itself, some-within, below-or-past}
 use Rattle.std.proofs.lemmas.List.{get_or_past}
 
--- the file of the row stands somewhere
-pub record Linked (n : Namespace) (row : ℕ) : Type 0 where
+-- the file of the row stands somewhere in these trees
+pub record LinkedIn (trees : List Tree) (row : ℕ) : Type 0 where
   pub number : ℕ
   pub path : Path
   pub id : FileId
   pub kind : Kind
-  pub there : value_at path_cmp path (tree_of n number) ≡ Some (node.File id kind)
+  pub there : value_at path_cmp path (slice_index_or trees number []) ≡ Some (node.File id kind)
   pub is : id.row ≡ row
 
--- a reference names the file of the row
-pub record Held (n : Namespace) (row : ℕ) : Type 0 where
+-- one of these references names the file of the row
+pub record HeldIn (references : List (Option Reference)) (row : ℕ) : Type 0 where
   pub place : ℕ
   pub reference : Reference
-  pub there : slice_index_or n.references place None ≡ Some reference
+  pub there : slice_index_or references place None ≡ Some reference
   pub is : reference.file.row ≡ row
+
+abbrev pub Linked : Namespace → ℕ → Type 0
+Linked n row = LinkedIn n.trees row
+
+abbrev pub Held : Namespace → ℕ → Type 0
+Held n row = HeldIn n.references row
 
 -- the lists of a namespace have their places
 pub record NamespaceSizes (n : Namespace) : Type 0 where
