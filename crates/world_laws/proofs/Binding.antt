@@ -15,10 +15,12 @@ use Rattle.vfs_model.specs.Namespace.{generation_at, life_at, tree_of}
 use Rattle.vfs_model.specs.OpenStep.{kind_of}
 use Rattle.vfs_model.specs.declared.namespace.Backing.{Backing}
 use Rattle.vfs_model.specs.declared.namespace.Backing.TheVariants as backing
+use Rattle.vfs_model.specs.declared.namespace.DeviceState.{DeviceState}
 use Rattle.vfs_model.specs.declared.namespace.LiveFile.{LiveFile}
 use Rattle.vfs_model.specs.declared.namespace.Mount.{Mount}
 use Rattle.vfs_model.specs.declared.namespace.Namespace.{Namespace}
 use Rattle.vfs_model.specs.declared.namespace.Reference.{Reference}
+use Rattle.vfs_model.specs.declared.namespace.VolumeState.{VolumeState}
 use Rattle.world_laws.proofs.Beside.{alive-beside, folders-beside, live-beside}
 use Rattle.world_laws.proofs.Lists.{number-itself, other-number, same-number, same-or-other, same-some, set-here, set-there, some-within}
 use Rattle.world_laws.proofs.Passing.{and-both, and-first, and-second}
@@ -96,7 +98,7 @@ devices-bound n row life device l free =
     omega (arith, counted, before)
 
 -- the other cells, and the other devices, have as many files as before
-apart-cell : (volume cell v c : ℕ) → (volume ≡ v → cell ≢ c) → lies_on_cell volume cell (backing.Cell v c) ≡ false
+pub apart-cell : (volume cell v c : ℕ) → (volume ≡ v → cell ≢ c) → lies_on_cell volume cell (backing.Cell v c) ≡ false
 apart-cell volume cell v c h = elim (same-or-other v volume) [
   | inl e ↦ elim (same-or-other c cell) [
     | inl f ↦ absurd (h (sym e) (sym f))
@@ -109,7 +111,7 @@ apart-cell volume cell v c h = elim (same-or-other v volume) [
     and-false true = refl
     and-false false = refl
 
-own-cell : (v c : ℕ) → lies_on_cell v c (backing.Cell v c) ≡ true
+pub own-cell : (v c : ℕ) → lies_on_cell v c (backing.Cell v c) ≡ true
 own-cell v c = and-both (v == v) (c == c) (number-itself v) (number-itself c)
 
 -- one cell, or another
@@ -213,7 +215,7 @@ boxes-bound n row life generations l free may kind boxes =
     (but-taken m life.backing (but-life n row (Some life) generations kind (boxes-but n boxes)))
 
 -- live files fit their mounts
-lives-set : (n : Namespace) (row : ℕ) (found : Option LiveFile) (generations : List ℕ) →
+pub lives-set : (n : Namespace) (row : ℕ) (found : Option LiveFile) (generations : List ℕ) →
     ((life : LiveFile) → found ≡ Some life → IsSomeAnd (mount_numbered n life.mount) (λ mount. fits_mount n life mount ≡ true)) →
     LivesFit n → LivesFit (with_life n row found generations)
 lives-set n row found generations new fit other life h =
@@ -245,77 +247,72 @@ lives-taken m backing.Memory fit = fit
 lives-taken m (backing.Cell volume cell) fit = lives-cell false m volume cell fit
 lives-taken m (backing.Device device) fit = fit
 
--- what else holds after a backing was taken
-folders-taken : (m : Namespace) (b : Backing) → FoldersStand m → FoldersStand (after_taking m b)
-folders-taken m backing.Memory f = f
-folders-taken m (backing.Cell volume cell) f = folders-beside m m.lives m.generations m.references (with_cell false m volume cell).volumes m.devices f
-folders-taken m (backing.Device device) f = folders-beside m m.lives m.generations m.references m.volumes (with_device true m device).devices f
+-- what holds beside cells and devices
+pub record Rest (Excused : ℕ → Type 0) (n : Namespace) : Type 0 where
+  pub live : ReferencesLive n
+  pub used : (row : ℕ) → 0 < row → is_some (life_at n row) ≡ true → IsUsed Excused n row
+  pub alone : (number other : ℕ) (p q : Path) (id same : FileId) (kind like : Kind) →
+      value_at path_cmp p (tree_of n number) ≡ Some (node.File id kind) →
+      value_at path_cmp q (tree_of n other) ≡ Some (node.File same like) →
+      id.row ≡ same.row → (number ≡ other) × (p ≡ q)
+  pub folders : FoldersStand n
+  pub trees : (number : ℕ) → IsClosedTree is_dir_node (tree_of n number)
+  pub roms : RomsClosed n.roms
+  pub sizes : NamespaceSizes n
+
+pub rest-of : (Excused : ℕ → Type 0) (n : Namespace) → Stands Excused n → Rest Excused n
+rest-of Excused n s = record { live = s.live; used = s.used; alone = s.alone; folders = s.folders; trees = s.trees; roms = s.roms; sizes = s.sizes }
+
+pub rest-stands : (Excused : ℕ → Type 0) (n : Namespace) → Rest Excused n → BoxesPlaced n → LivesFit n → Stands Excused n
+rest-stands Excused n s boxes lives =
+    record { live = s.live; used = s.used; alone = s.alone; folders = s.folders; trees = s.trees; boxes = boxes; lives = lives; roms = s.roms; sizes = s.sizes }
+
+-- it does not hang on volumes and devices
+pub rest-beside : (Excused : ℕ → Type 0) (n : Namespace) (volumes : List VolumeState) (devices : List DeviceState) → Rest Excused n → Rest Excused (record n { volumes = volumes; devices = devices })
+rest-beside Excused n volumes devices s = record {
+  live = live-beside n n.folders volumes devices s.live;
+  used = s.used;
+  alone = s.alone;
+  folders = folders-beside n n.lives n.generations n.references volumes devices s.folders;
+  trees = s.trees;
+  roms = s.roms;
+  sizes = record {
+    lives = s.sizes.lives;
+    generations = s.sizes.generations;
+    trees = s.sizes.trees;
+    folders = s.sizes.folders;
+    mounts = s.sizes.mounts;
+    references = s.sizes.references;
+  };
+}
+
+rest-taken : (Excused : ℕ → Type 0) (m : Namespace) (b : Backing) → Rest Excused m → Rest Excused (after_taking m b)
+rest-taken Excused m backing.Memory s = s
+rest-taken Excused m (backing.Cell volume cell) s = rest-beside Excused m (with_cell false m volume cell).volumes m.devices s
+rest-taken Excused m (backing.Device device) s = rest-beside Excused m m.volumes (with_device true m device).devices s
 
 -- a row is bound, and nothing names it yet
 pub bind-stands : (n : Namespace) (row : ℕ) (life : LiveFile) → MayBind n row life → Stands Nothing n → Stands (Only row) (bind_row n row life)
 unfolding bind_row
 bind-stands n row life may s =
-    taken (with_life n row (Some life) (next_generations n row)) life.backing
-    (live-bound n row (Some life) may.free s.live)
-    (λ other l h. used-bound n row (Some life) other may.counted l (same-or-other (other - 1) (row - 1)) s.used h)
-    s.alone
-    (folders-beside n (slice_set n.lives (row - 1) (Some life)) (next_generations n row) n.references n.volumes n.devices s.folders)
-    s.trees
-    (boxes-bound n row life (next_generations n row) (subst (λ x. row - 1 < x) (sym s.sizes.lives) may.within) may.free may.backing may.kind s.boxes)
-    (lives-taken _ life.backing (lives-set n row (Some life) (next_generations n row) (λ other e. subst (λ x. IsSomeAnd (mount_numbered n x.mount) (λ mount. fits_mount n x mount ≡ true)) (same-some life other e) may.mount) s.lives))
-    s.roms
-    (record {
-      lives = length-set n.lives (row - 1) (Some life) ∙ s.sizes.lives;
-      generations = length-set n.generations (row - 1) _ ∙ s.sizes.generations;
-      trees = s.sizes.trees;
-      folders = s.sizes.folders;
-      mounts = s.sizes.mounts;
-      references = s.sizes.references;
-    })
-  where
-    taken : (m : Namespace) (b : Backing) → ReferencesLive m →
-        ((other : ℕ) → 0 < other → is_some (life_at m other) ≡ true → IsUsed (Only row) m other) →
-        ((number other : ℕ) (p q : Path) (id same : FileId) (kind like : Kind) →
-          value_at path_cmp p (tree_of m number) ≡ Some (node.File id kind) →
-          value_at path_cmp q (tree_of m other) ≡ Some (node.File same like) →
-          id.row ≡ same.row → (number ≡ other) × (p ≡ q)) →
-        FoldersStand m → ((number : ℕ) → IsClosedTree is_dir_node (tree_of m number)) → BoxesPlaced (after_taking m b) → LivesFit (after_taking m b) →
-        RomsClosed m.roms → NamespaceSizes m → Stands (Only row) (after_taking m b)
-    taken m backing.Memory live used alone folders trees boxes lives roms sizes =
-        record { live = live; used = used; alone = alone; folders = folders; trees = trees; boxes = boxes; lives = lives; roms = roms; sizes = sizes }
-    taken m (backing.Cell volume cell) live used alone folders trees boxes lives roms sizes = record {
-      live = live-beside m m.folders (with_cell false m volume cell).volumes m.devices live;
-      used = used;
-      alone = alone;
-      folders = folders-taken m (backing.Cell volume cell) folders;
-      trees = trees;
-      boxes = boxes;
-      lives = lives;
-      roms = roms;
+    let within : row - 1 < length n.lives = subst (λ x. row - 1 < x) (sym s.sizes.lives) may.within in
+    rest-stands (Only row) _
+    (rest-taken (Only row) (with_life n row (Some life) (next_generations n row)) life.backing (record {
+      live = live-bound n row (Some life) may.free s.live;
+      used = λ other l h. used-bound n row (Some life) other may.counted l (same-or-other (other - 1) (row - 1)) s.used h;
+      alone = s.alone;
+      folders = folders-beside n (slice_set n.lives (row - 1) (Some life)) (next_generations n row) n.references n.volumes n.devices s.folders;
+      trees = s.trees;
+      roms = s.roms;
       sizes = record {
-        lives = sizes.lives;
-        generations = sizes.generations;
-        trees = sizes.trees;
-        folders = sizes.folders;
-        mounts = sizes.mounts;
-        references = sizes.references;
+        lives = length-set n.lives (row - 1) (Some life) ∙ s.sizes.lives;
+        generations = length-set n.generations (row - 1) _ ∙ s.sizes.generations;
+        trees = s.sizes.trees;
+        folders = s.sizes.folders;
+        mounts = s.sizes.mounts;
+        references = s.sizes.references;
       };
-    }
-    taken m (backing.Device device) live used alone folders trees boxes lives roms sizes = record {
-      live = live-beside m m.folders m.volumes (with_device true m device).devices live;
-      used = used;
-      alone = alone;
-      folders = folders-taken m (backing.Device device) folders;
-      trees = trees;
-      boxes = boxes;
-      lives = lives;
-      roms = roms;
-      sizes = record {
-        lives = sizes.lives;
-        generations = sizes.generations;
-        trees = sizes.trees;
-        folders = sizes.folders;
-        mounts = sizes.mounts;
-        references = sizes.references;
-      };
-    }
+    }))
+    (boxes-bound n row life (next_generations n row) within may.free may.backing may.kind s.boxes)
+    (lives-taken _ life.backing (lives-set n row (Some life) (next_generations n row)
+    (λ other e. subst (λ x. IsSomeAnd (mount_numbered n x.mount) (λ mount. fits_mount n x mount ≡ true)) (same-some life other e) may.mount) s.lives))

@@ -1,6 +1,7 @@
 pub mod Beside
 pub mod Binding
 pub mod FileKeeping
+pub mod Freeing
 pub mod Lists
 pub mod Passing
 pub mod Referring
