@@ -124,3 +124,8 @@ walked-from n front (first ∷ names) name rest h =
 pub walked : (n : Namespace) (front : Path) (name : List ℕ) (rest : Path) → walk_refusal n (front ++ name ∷ rest) ≡ None → is_folder n front ≡ true
 unfolding walk_refusal
 walked n front name rest h = walked-from n [] front name rest h
+
+pub prefix-append-both : (front a b : Path) → is_prefix a b ≡ true → is_prefix (front ++ a) (front ++ b) ≡ true
+prefix-append-both front a b h =
+    subst (λ x. is_prefix (front ++ a) (front ++ x) ≡ true) (sym (prefix-splits a b h))
+    (subst (λ x. is_prefix (front ++ a) x ≡ true) (append_assoc front a (drop (length a) b)) (prefix-append (front ++ a) (drop (length a) b)))

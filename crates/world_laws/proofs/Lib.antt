@@ -5,6 +5,7 @@ pub mod FileKeeping
 pub mod Freeing
 pub mod Lists
 pub mod Passing
+pub mod Points
 pub mod Referring
 pub mod Standing
 pub mod Taking
