@@ -3,6 +3,7 @@ pub mod Binding
 pub mod Covering
 pub mod FileKeeping
 pub mod Freeing
+pub mod Growing
 pub mod Lists
 pub mod Passing
 pub mod Points
