@@ -10,4 +10,5 @@ pub mod Points
 pub mod Referring
 pub mod Standing
 pub mod Taking
+pub mod TreeParts
 pub mod WorldKeeping

@@ -72,6 +72,10 @@ pub nor-second : (a b : Bool) → (a || b) ≡ false → b ≡ false
 nor-second true b h = absurd (cc)
 nor-second false b h = h
 
+pub neither : (a b : Bool) → a ≡ false → b ≡ false → (a || b) ≡ false
+neither true b h k = absurd (cc)
+neither false b h k = k
+
 pub no-place : {X : Type 0} (p : X → Bool) (xs : List X) (place : ℕ) (d : X) → list_any p xs ≡ false → place < length xs → p (slice_index_or xs place d) ≡ false
 no-place p [] place d h l = absurd (omega arith)
 no-place p (x ∷ xs) zero d h l = nor-first (p x) (list_any p xs) h
