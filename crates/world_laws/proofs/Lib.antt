@@ -5,6 +5,7 @@ pub mod FileKeeping
 pub mod Freeing
 pub mod Growing
 pub mod Lists
+pub mod Nodes
 pub mod Passing
 pub mod Points
 pub mod Referring
