@@ -1,14 +1,14 @@
 -- The world at the start is consistent.
-use Rattle.std.proofs.Common.{◌≡◌, ℕ, zero, suc, ◌-◌, ◌<◌, Bool, true, false, Option, None, is_some, List, [], ◌∷◌, length, map, replicate, slice_index_or, refl, sym, ap, subst, ◌∙◌, arith}
+use Rattle.std.proofs.Common.{◌≡◌, ℕ, zero, suc, ◌-◌, ◌<◌, Bool, true, false, Option, None, is_some, List, [], ◌∷◌, length, map, replicate, slice_index_or, inl, refl, sym, ap, subst, ◌∙◌, arith}
 use Rattle.std.specs.FinMap.Entries.{find as value_at}
 use Rattle.vfs_base.specs.Path.{Path, path_cmp}
 use Rattle.vfs_base.specs.declared.describe.CharsShape.{CharsShape}
 use Rattle.vfs_base.specs.declared.describe.Describe.{Describe}
 use Rattle.vfs_base.specs.declared.describe.VolumeShape.{VolumeShape}
-use Rattle.vfs_model.specs.Boxes.{BoxesPlaced, HasSizes, IsConsistent, fits_kind, is_kept_dir, one_if}
-use Rattle.vfs_model.specs.Consistency.{FoldersStand, IsClosedTree, ReferencesLive, RowsUsed, agrees}
+use Rattle.vfs_model.specs.Boxes.{BoxesPlaced, CellsFit, HasSizes, IsConsistent, RomsClosed, fits_kind, is_kept_dir, one_if}
+use Rattle.vfs_model.specs.Consistency.{FoldersStand, IsClosedTree, LivesFit, ReferencesLive, RowsUsed, agrees}
 use Rattle.vfs_model.specs.FileLife.{no_device, no_volume}
-use Rattle.vfs_model.specs.Homes.{file_at, opening_world}
+use Rattle.vfs_model.specs.Homes.{empty_cells, file_at, opening_world}
 use Rattle.vfs_model.specs.Lookup.{covering_mount, is_dir_node, is_folder, node_at}
 use Rattle.vfs_model.specs.Namespace.{folder_of, generation_at, life_at, opening_device, opening_namespace, opening_volume, root_mount, tree_of}
 use Rattle.vfs_model.specs.declared.namespace.Mount.{Mount}
@@ -48,6 +48,11 @@ opened-spare : (shapes : List VolumeShape) (place cell : ℕ) → cell < length 
 opened-spare [] place cell l = absurd (omega arith)
 opened-spare (shape ∷ shapes) zero cell l = in-range (length shape.pages) true false cell l
 opened-spare (shape ∷ shapes) (suc place) cell l = opened-spare shapes place cell l
+
+opened-bytes : (shapes : List VolumeShape) (volume cell : ℕ) → slice_index_or (slice_index_or (map empty_cells shapes) volume []) cell [] ≡ []
+opened-bytes [] volume cell = refl
+opened-bytes (shape ∷ shapes) zero cell = all-same (length shape.pages) [] cell
+opened-bytes (shape ∷ shapes) (suc volume) cell = opened-bytes shapes volume cell
 
 opened-device : (shapes : List CharsShape) (place : ℕ) → (slice_index_or (map opening_device shapes) place no_device).is_out ≡ false
 opened-device [] place = refl
@@ -93,7 +98,7 @@ module _ (roms : List RomImage) (describe : Describe) where
 
   rows-used : RowsUsed (opening_namespace roms describe)
   rows-used = record {
-    used = λ row h. let none : is_some (life_at (opening_namespace roms describe) row) ≡ false = ap is_some (no-life row) in absurd (cc);
+    used = λ row l h. let none : is_some (life_at (opening_namespace roms describe) row) ≡ false = ap is_some (no-life row) in absurd (cc);
     alone = λ number other p q id same kind like h k e. let none = no-node number p in absurd (cc);
   }
 
@@ -107,6 +112,8 @@ module _ (roms : List RomImage) (describe : Describe) where
     points_differ = λ place other d l m e. omega arith;
     numbers_differ = λ place other d l m e. omega arith;
     numbers = λ place d l. rw (one-place place root_mount d l) (omega arith);
+    nested = λ place other d l m. absurd (omega arith);
+    unused = λ number h. no-tree number;
   }
 
   boxes-placed : BoxesPlaced (opening_namespace roms describe)
@@ -118,15 +125,26 @@ module _ (roms : List RomImage) (describe : Describe) where
     kinds = λ row. ap fits_kind (all-same 1024 None (row - 1));
     mounted = λ volume h. opened-keeps describe.volumes volume;
     kept = λ volume. subst (IsClosedTree is_kept_dir) (sym (opened-keeps describe.volumes volume)) (empty-closed is_kept_dir);
+    named = λ volume. inl (opened-keeps describe.volumes volume);
+  }
+
+  lives-fit : LivesFit (opening_namespace roms describe)
+  lives-fit row life h = let none = no-life row in absurd (cc)
+
+  cells-fit : CellsFit (opening_world roms describe)
+  unfolding opening_namespace opening_world
+  cells-fit = record {
+    live = λ row volume cell h. rw (all-same 1024 (file.Unbound 0) (row - 1)) (omega arith);
+    home = λ volume cell. rw (opened-bytes describe.volumes volume cell) (omega arith);
   }
 
   sizes : HasSizes (opening_world roms describe)
   unfolding opening_namespace opening_world
   sizes = record { files = refl; lives = refl; generations = refl; trees = refl; folders = refl; mounts = omega arith }
 
-  pub opening-consistent : IsConsistent (opening_world roms describe)
+  pub opening-consistent : RomsClosed roms → IsConsistent (opening_world roms describe)
   unfolding opening_world opening_namespace
-  opening-consistent = record {
+  opening-consistent closed = record {
     rows_agree = rows-agree;
     references_live = references-live;
     rows_used = rows-used;
@@ -134,5 +152,8 @@ module _ (roms : List RomImage) (describe : Describe) where
     folders_stand = folders-stand;
     trees_closed = λ number. subst (IsClosedTree is_dir_node) (sym (no-tree number)) (empty-closed is_dir_node);
     boxes_placed = boxes-placed;
+    lives_fit = lives-fit;
+    cells_fit = cells-fit;
+    roms_closed = closed;
     sizes = sizes;
   }

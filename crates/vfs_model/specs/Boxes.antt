@@ -1,21 +1,26 @@
 -- Where cells and character devices are, and the whole record of what holds between steps.
-use Rattle.std.specs.Prelude.{◌≡◌, ℕ, ◌+◌, ◌==◌, ◌≤◌, ◌<◌, Bool, true, false, not, ◌&&◌, Option, Some, None, [], length, count_by, slice_index_or, if◌then◌else◌}
+use Rattle.std.specs.Prelude.{◌≡◌, ℕ, ◌+◌, ◌==◌, ◌≤◌, ◌<◌, Bool, true, false, not, ◌&&◌, Option, Some, None, List, [], ◌⊎◌, length, count_by, slice_index_or, if◌then◌else◌}
 use Rattle.vfs_base.specs.declared.kinds.FsType.TheVariants as fs
 use Rattle.vfs_base.specs.declared.kinds.Kind.{Kind}
-use Rattle.vfs_model.specs.Consistency.{FoldersStand, IsClosedTree, ReferencesLive, RowsUsed, agrees}
-use Rattle.vfs_model.specs.Content.{is_mounted}
-use Rattle.vfs_model.specs.FileLife.{no_device, volume_at}
+use Rattle.vfs_model.specs.Consistency.{FoldersStand, IsClosedTree, LivesFit, ReferencesLive, RowsUsed, agrees}
+use Rattle.vfs_model.specs.Content.{is_mounted, no_rom}
+use Rattle.vfs_model.specs.FileLife.{backing_of, no_device, volume_at, volume_named}
 use Rattle.vfs_model.specs.FileStep.{is_cell}
 use Rattle.vfs_model.specs.Lookup.{is_dir_node}
 use Rattle.vfs_model.specs.Namespace.{generation_at, life_at, tree_of}
 use Rattle.vfs_model.specs.ReferenceSteps.{is_device_kind}
-use Rattle.vfs_model.specs.Homes.{file_at}
+use Rattle.vfs_model.specs.Homes.{cell_bytes, cell_capacity, file_at}
 use Rattle.vfs_model.specs.declared.namespace.Backing.{Backing}
 use Rattle.vfs_model.specs.declared.namespace.Backing.TheVariants as backing
 use Rattle.vfs_model.specs.declared.namespace.KeptNode.{KeptNode}
 use Rattle.vfs_model.specs.declared.namespace.KeptNode.TheVariants as kept
 use Rattle.vfs_model.specs.declared.namespace.LiveFile.{LiveFile}
 use Rattle.vfs_model.specs.declared.namespace.Namespace.{Namespace}
+use Rattle.vfs_model.specs.declared.namespace.RomImage.{RomImage}
+use Rattle.vfs_model.specs.declared.namespace.RomNode.{RomNode}
+use Rattle.vfs_model.specs.declared.namespace.RomNode.TheVariants as rom
+use Rattle.vfs_model.specs.declared.world.FileState.{FileState}
+use Rattle.vfs_model.specs.declared.world.FileState.TheVariants as file
 use Rattle.vfs_model.specs.declared.world.World.{World}
 
 abbrev pub lies_on_cell : ℕ → ℕ → Backing → Bool
@@ -69,6 +74,29 @@ pub record BoxesPlaced (n : Namespace) : Type 0 where
   pub kinds : (row : ℕ) → fits_kind (life_at n row) ≡ true
   pub mounted : (volume : ℕ) → is_mounted n fs.Cell (volume_at n volume).name ≡ true → (volume_at n volume).kept ≡ []
   pub kept : (volume : ℕ) → IsClosedTree is_kept_dir (volume_at n volume).kept
+  -- of volumes with one name, which no description has, the first alone is ever mounted
+  pub named : (volume : ℕ) → ((volume_at n volume).kept ≡ []) ⊎ (volume_named n (volume_at n volume).name ≡ volume)
+
+abbrev pub is_rom_dir : Option RomNode → Bool
+is_rom_dir None = false
+is_rom_dir (Some rom.Dir) = true
+is_rom_dir (Some (rom.File bytes)) = false
+
+-- each rom is a tree of folders and files, as each manifest in its form means one
+abbrev pub RomsClosed : List RomImage → Type 0
+RomsClosed roms = (place : ℕ) → IsClosedTree is_rom_dir (slice_index_or roms place no_rom).nodes
+
+-- the bytes that a file can have, where it is a file of bytes
+abbrev pub file_capacity : FileState → ℕ
+file_capacity (file.Unbound generation) = 0
+file_capacity (file.Bytes generation kind capacity bytes) = capacity
+file_capacity (file.Device generation input output) = 0
+
+-- what lies on a cell, by a live file or at home, is no longer than the cell
+pub record CellsFit (w : World) : Type 0 where
+  pub live : (row volume cell : ℕ) → backing_of (life_at w.namespace row) ≡ backing.Cell volume cell →
+      file_capacity (file_at w row) ≤ cell_capacity w.namespace volume cell
+  pub home : (volume cell : ℕ) → length (cell_bytes w.homes volume cell) ≤ cell_capacity w.namespace volume cell
 
 -- how many places the lists of a world have
 pub record HasSizes (w : World) : Type 0 where
@@ -90,4 +118,7 @@ pub record IsConsistent (w : World) : Type 0 where
   pub folders_stand : FoldersStand w.namespace
   pub trees_closed : (number : ℕ) → IsClosedTree is_dir_node (tree_of w.namespace number)
   pub boxes_placed : BoxesPlaced w.namespace
+  pub lives_fit : LivesFit w.namespace
+  pub cells_fit : CellsFit w
+  pub roms_closed : RomsClosed w.namespace.roms
   pub sizes : HasSizes w

@@ -1,5 +1,5 @@
 -- What holds of the plain world between steps.
-use Rattle.std.specs.Prelude.{◌≡◌, ℕ, ◌==◌, ◌≤◌, ◌<◌, Bool, true, false, not, ◌&&◌, ◌||◌, T, Option, Some, None, is_some, IsSomeAnd, List, [], ◌∷◌, ◌++◌, length, drop, filter, nat_le, slice_index_or}
+use Rattle.std.specs.Prelude.{◌≡◌, ℕ, ◌==◌, ◌≤◌, ◌<◌, Bool, true, false, not, ◌&&◌, ◌||◌, T, Option, Some, None, is_some, IsSomeAnd, List, [], ◌∷◌, ◌++◌, length, drop, filter, find, nat_le, slice_index_or}
 use Rattle.std.specs.FinMap.Entries.{find as value_at, is_sorted}
 use Rattle.std.specs.List.{list_any}
 use Rattle.vfs_base.specs.Path.{Path, path_cmp, printed}
@@ -7,9 +7,12 @@ use Rattle.vfs_base.specs.declared.ids.FileId.{FileId}
 use Rattle.vfs_base.specs.declared.kinds.Kind.{Kind}
 use Rattle.vfs_base.specs.declared.kinds.Kind.TheVariants as kind
 use Rattle.vfs_base.specs.declared.kinds.NodeKind.TheVariants as node
-use Rattle.vfs_model.specs.FileLife.{is_held, is_linked}
+use Rattle.vfs_model.specs.FileLife.{is_held, is_linked, volume_named}
 use Rattle.vfs_model.specs.Lookup.{is_below, is_folder, nearest, node_in}
 use Rattle.vfs_model.specs.Namespace.{all_mounts, folder_of, generation_at, life_at, same_path, tree_of}
+use Rattle.vfs_model.specs.OpenStep.{kind_of}
+use Rattle.vfs_model.specs.declared.namespace.Backing.{Backing}
+use Rattle.vfs_model.specs.declared.namespace.Backing.TheVariants as backing
 use Rattle.vfs_model.specs.declared.namespace.LiveFile.{LiveFile}
 use Rattle.vfs_model.specs.declared.namespace.Mount.{Mount}
 use Rattle.vfs_model.specs.declared.namespace.Namespace.{Namespace}
@@ -36,8 +39,9 @@ agrees (Some life) generation (file.Bytes other shape capacity bytes) =
     other == generation && same_kind life.kind shape && not (same_kind shape kind.Chr) && nat_le (length bytes) capacity
 agrees (Some life) generation (file.Device other input output) = other == generation && same_kind life.kind kind.Chr
 
--- the file is live with its generation, as a file of this kind in this mount
+-- the file is live with its generation, as a file of this kind in this mount; rows are counted from 1
 pub record IsLive (n : Namespace) (id : FileId) (kind : Kind) (number : ℕ) : Type 0 where
+  pub row : 0 < id.row
   pub generation : generation_at n id.row ≡ id.generation
   pub life : IsSomeAnd (life_at n id.row) (λ life. (life.kind ≡ kind) × (life.mount ≡ number))
 
@@ -54,7 +58,7 @@ pub record ReferencesLive (n : Namespace) : Type 0 where
 
 -- each live file is linked or held, and no file is linked at two places
 pub record RowsUsed (n : Namespace) : Type 0 where
-  pub used : (row : ℕ) → is_some (life_at n row) ≡ true → (is_linked n row || is_held n row) ≡ true
+  pub used : (row : ℕ) → 0 < row → is_some (life_at n row) ≡ true → (is_linked n row || is_held n row) ≡ true
   pub alone : (number other : ℕ) (p q : Path) (id same : FileId) (kind like : Kind) →
       value_at path_cmp p (tree_of n number) ≡ Some (node.File id kind) →
       value_at path_cmp q (tree_of n other) ≡ Some (node.File same like) →
@@ -83,6 +87,29 @@ pub record FoldersStand (n : Namespace) : Type 0 where
   pub numbers_differ : (place other : ℕ) (d : Mount) → place < length (all_mounts n) → other < length (all_mounts n) →
       (slice_index_or (all_mounts n) place d).number ≡ (slice_index_or (all_mounts n) other d).number → place ≡ other
   pub numbers : (place : ℕ) (d : Mount) → place < length (all_mounts n) → (slice_index_or (all_mounts n) place d).number < 16
+  -- no point lies below one that was mounted later
+  pub nested : (place other : ℕ) (d : Mount) → place < other → other < length (all_mounts n) →
+      is_below (slice_index_or (all_mounts n) other d).point (slice_index_or (all_mounts n) place d).point ≡ false
+  -- a number that no mount has is that of an empty tree
+  pub unused : (number : ℕ) → is_number n number ≡ false → tree_of n number ≡ []
+
+-- what a live file lies on is of its mount: the type's kind, and on a cell the mount's volume
+abbrev pub fits_mount : Namespace → LiveFile → Mount → Bool
+fits_mount n life mount = same_kind life.kind (kind_of mount.fs) && is_of_volume life.backing
+  where
+    is_of_volume : Backing → Bool
+    is_of_volume backing.Memory = true
+    is_of_volume (backing.Cell volume cell) = volume == volume_named n mount.source
+    is_of_volume (backing.Device device) = true
+
+-- the mount with this number
+abbrev pub mount_numbered : Namespace → ℕ → Option Mount
+mount_numbered n number = find (λ mount. mount.number == number) (all_mounts n)
+
+-- each live file's mount stands, and the file is one of its files
+abbrev pub LivesFit : Namespace → Type 0
+LivesFit n = (row : ℕ) (life : LiveFile) → life_at n row ≡ Some life →
+    IsSomeAnd (mount_numbered n life.mount) (λ mount. fits_mount n life mount ≡ true)
 
 -- a tree of at most 4096 nodes, in the order of paths, in which each parent is a folder
 pub record IsClosedTree {X : Type 0} (is_dir : Option X → Bool) (tree : List (Path × X)) : Type 0 where

@@ -64,7 +64,7 @@ pub fn renamed_subtree_stands()
     ensures { RenamedSubtreeStands }
 {}
 
-/// The world at the start is consistent, whatever devices and roms there are.
+/// The world at the start is consistent, whatever devices there are, where each rom is a tree.
 pub fn opening_world_is_consistent()
     ensures { OpeningWorldIsConsistent }
 {}

@@ -1,0 +1,15 @@
+pub mod Beside
+pub mod Binding
+pub mod Covering
+pub mod FileKeeping
+pub mod Freeing
+pub mod Growing
+pub mod Lists
+pub mod Nodes
+pub mod Passing
+pub mod Points
+pub mod Referring
+pub mod Standing
+pub mod Taking
+pub mod TreeParts
+pub mod WorldKeeping
