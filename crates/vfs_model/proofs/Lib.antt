@@ -1,12 +1,17 @@
 pub mod CacheExamples
 pub mod CommandExamples
 pub mod CommandRuns
+pub mod CopyCommandExamples
 pub mod CoveringMounts
 pub mod DeviceExamples
 pub mod EmptyMounts
 pub mod ExampleSteps
 pub mod Examples
+pub mod FileCommandExamples
+pub mod FolderCommandExamples
+pub mod MappingCommandExamples
 pub mod MarkExamples
+pub mod MountCommandExamples
 pub mod MountLaws
 pub mod MountsApart
 pub mod MovedLaws
