@@ -14,7 +14,7 @@ use Rattle.vfs_model.specs.CommandText.{line}
 
 -- the file of a slot is open, under the reference of this number
 abbrev pub opened : ℕ → ℕ → Kind → Reply
-opened number row kind = reply.Opened (hold 1 number) (id row 1) kind
+opened number slot kind = reply.Opened (hold 1 number) (id slot 1) kind
 
 abbrev pub asks_open : List ℕ → Moment
 asks_open path = asks (step.Open path r)
