@@ -18,6 +18,7 @@ pub mod OpeningLaws
 pub mod RefusalExamples
 pub mod RefusedSteps
 pub mod RenameLaws
+pub mod ScheduleExactness
 pub mod ScheduleExamples
 pub mod ScheduleLemmas
 pub mod ScheduleReading

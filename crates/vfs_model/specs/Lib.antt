@@ -10,6 +10,7 @@ pub mod ConsistencyLaws
 pub mod Content
 pub mod CopyCommands
 pub mod Deck
+pub mod DeckLaws
 pub mod DeckLine
 pub mod FileCommands
 pub mod FileLife

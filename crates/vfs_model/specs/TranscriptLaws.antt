@@ -1,5 +1,5 @@
 -- The laws of schedules, sessions and transcripts, each proved once for all who stand on them.
-use Rattle.std.specs.Prelude.{◌≡◌, ℕ, ◌<◌, ◌≤◌, ◌^◌, All, Bool, true, false, is_some, is_none, Some, Ok, List, [], ◌∷◌, ◌++◌, length, map, take, slice_index_or}
+use Rattle.std.specs.Prelude.{◌≡◌, ◌⊎◌, ℕ, ◌<◌, ◌≤◌, ◌^◌, All, Bool, true, false, is_some, is_none, Some, Ok, List, [], ◌∷◌, ◌++◌, length, map, take, slice_index_or}
 use Rattle.std.specs.Option.{option_and_then}
 use Rattle.vfs_base.specs.declared.deck.Deck.{Deck}
 use Rattle.vfs_base.specs.declared.describe.Describe.{Describe}
@@ -40,6 +40,11 @@ IsEntry entry = IsWho entry.who × IsMark entry.mark
 abbrev pub PrintedScheduleIsRead : Type 0
 PrintedScheduleIsRead = (schedule : List Entry) → All IsEntry schedule →
     (schedule_entries (schedule_line schedule) ≡ Ok schedule) × (schedule_entries (schedule_text schedule) ≡ Ok schedule)
+
+-- what is read as a schedule is a printed one, with its line feed or without it
+abbrev pub ReadScheduleIsPrinted : Type 0
+ReadScheduleIsPrinted = (line : List ℕ) (schedule : List Entry) → schedule_entries line ≡ Ok schedule →
+    ((line ≡ schedule_line schedule) ⊎ (line ≡ schedule_text schedule)) × All IsEntry schedule
 
 -- the entry can be taken after these
 abbrev pub can_take : Deck → Describe → List Entry → Entry → Bool

@@ -2,7 +2,7 @@
 
 ghost use Rattle.vfs_model.specs.ConsistencyLaws.{OpeningWorldIsConsistent, StandingMountsAreApart};
 ghost use Rattle.vfs_model.specs.Laws.{RefusedStepChangesNothing, WorkerChangesNothing, CoveringMountIsLongest, RefusedWorldStaysSame, PutNodeStands, TakenNodeIsGone, NormalPathHasNormalNames, PrintedPathNamesItself, MountShowsItsTree, UnmountLeavesOtherMounts, MovedSubtreeStands, RenamedSubtreeStands, EmptyMountChangesNoNode};
-ghost use Rattle.vfs_model.specs.TranscriptLaws.{PrintedScheduleIsRead, TranscriptNeedsEachEntry, UndefinedTranscriptHasPlace, FrontHasTranscript, WholeScheduleEndsLast, ScriptSaysTurns, EachBlockShowsItsLine};
+ghost use Rattle.vfs_model.specs.TranscriptLaws.{PrintedScheduleIsRead, ReadScheduleIsPrinted, TranscriptNeedsEachEntry, UndefinedTranscriptHasPlace, FrontHasTranscript, WholeScheduleEndsLast, ScriptSaysTurns, EachBlockShowsItsLine};
 
 /// A step of the namespace that is refused changes neither the namespace nor a row; Shutdown apart.
 pub fn refused_step_changes_nothing()
@@ -82,6 +82,11 @@ pub fn standing_mounts_are_apart()
 /// A printed schedule reads back as itself, with its line feed and without it.
 pub fn printed_schedule_is_read()
     ensures { PrintedScheduleIsRead }
+{}
+
+/// What is read as a schedule is a printed one, with its line feed or without it.
+pub fn read_schedule_is_printed()
+    ensures { ReadScheduleIsPrinted }
 {}
 
 /// A script has a transcript exactly where each entry of the schedule can be taken after those before it.
