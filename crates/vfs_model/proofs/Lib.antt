@@ -23,6 +23,7 @@ pub mod ScheduleExamples
 pub mod ScheduleLemmas
 pub mod ScheduleReading
 pub mod ScriptExamples
+pub mod SessionExamples
 pub mod SharedFileExamples
 pub mod TranscriptExamples
 pub mod TranscriptLemmas
