@@ -3,6 +3,8 @@ pub mod CacheExamples
 pub mod CommandExamples
 pub mod CommandRuns
 pub mod CoveringMounts
+pub mod DeckLemmas
+pub mod DeckLineLemmas
 pub mod DeviceExamples
 pub mod DeviceTexts
 pub mod EmptyMounts

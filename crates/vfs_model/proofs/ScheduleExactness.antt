@@ -32,11 +32,11 @@ either-true true y h = inl refl
 either-true false y h = inr h
 
 -- a value behind a test
-tested : {A : Type 0} (b : Bool) (x y : A) → cond b (Some x) None ≡ Some y → (b ≡ true) × (x ≡ y)
+pub tested : {A : Type 0} (b : Bool) (x y : A) → cond b (Some x) None ≡ Some y → (b ≡ true) × (x ≡ y)
 tested true x y e = (refl, cc)
 tested false x y e = absurd (cc)
 
-mapped : {A B : Type 0} (f : A → B) (x : Option A) (y : B) → option_map f x ≡ Some y → (a : A) × (x ≡ Some a) × (f a ≡ y)
+pub mapped : {A B : Type 0} (f : A → B) (x : Option A) (y : B) → option_map f x ≡ Some y → (a : A) × (x ≡ Some a) × (f a ≡ y)
 mapped f None y e = absurd (cc)
 mapped f (Some a) y e = (a, refl, cc)
 
@@ -72,10 +72,10 @@ number-printed least most n text bound e =
     (sym (numeral-printed text parts.0 (omega (arith, high, bound))) ∙ ap decimal found.1, subst (λ m. least ≤ m) found.1 low, subst (λ m. m ≤ most) found.1 high)
 
 -- what is read as a who, of bytes with the first one apart
-abbrev PrintsWho : List ℕ → Who → Type 0
+abbrev pub PrintsWho : List ℕ → Who → Type 0
 PrintsWho text w = (text ≡ who_text w) × IsWho w
 
-who-printed : (text : List ℕ) (w : Who) → who_of text ≡ Some w → PrintsWho text w
+pub who-printed : (text : List ℕ) (w : Who) → who_of text ≡ Some w → PrintsWho text w
 who-printed [] w e = absurd (cc)
 who-printed (byte ∷ bytes) w e = by_flush (byte == 102) refl e
   where

@@ -7,7 +7,7 @@ use Rattle.vfs_base.specs.declared.reply.Reply.TheVariants as reply
 use Rattle.vfs_base.specs.declared.step.Step.{Step}
 use Rattle.vfs_base.specs.declared.step.Step.TheVariants as step
 use Rattle.vfs_model.proofs.CommandRuns.{shell}
-use Rattle.vfs_model.proofs.ExampleSteps.{flags, hold, id, no, rw_creat}
+use Rattle.vfs_model.proofs.ExampleSteps.{flags, hold, id, no}
 use Rattle.vfs_model.proofs.ScriptExamples.{ended}
 use Rattle.vfs_model.proofs.TranscriptRuns.{scripts}
 use Rattle.vfs_model.specs.Session.{exit_steps, session_run, wanted_step}
@@ -60,11 +60,11 @@ exit_steps_are_asked_once_whatever_is_replied = (refl, refl, refl, refl, refl, r
 
 pub a_prompt_is_of_the_time_of_the_post :
     (session_run lines begun).blocks ≡
-        ended (codes "msh />cd /d" ∷ [])
-        ∷ ended (codes "msh /d>open f rw,creat" ∷ codes "fd 3" ∷ [])
-        ∷ ended (codes "msh /d>open g rw,creat" ∷ codes "fd 4" ∷ [])
-        ∷ ended (codes "msh /d>dup 3" ∷ codes "fd 5" ∷ [])
-        ∷ ended (codes "msh /d>mmap 3 0 9 r" ∷ codes "window 1" ∷ [])
-        ∷ []
+    ended (codes "msh />cd /d" ∷ [])
+    ∷ ended (codes "msh /d>open f rw,creat" ∷ codes "fd 3" ∷ [])
+    ∷ ended (codes "msh /d>open g rw,creat" ∷ codes "fd 4" ∷ [])
+    ∷ ended (codes "msh /d>dup 3" ∷ codes "fd 5" ∷ [])
+    ∷ ended (codes "msh /d>mmap 3 0 9 r" ∷ codes "window 1" ∷ [])
+    ∷ []
 unfolding shell scripts
 a_prompt_is_of_the_time_of_the_post = refl

@@ -38,13 +38,14 @@ abbrev pub has_bytes : List ℕ → Bool
 has_bytes [] = false
 has_bytes (byte ∷ bytes) = true
 
+-- what is no end
+abbrev pub unless_end : Option Who → Option Who
+unless_end None = None
+unless_end (Some asker) = if is_end asker then None else Some asker
+
 -- who an event is a step of: `k`, `fR` or `rR`
 abbrev pub event_of : List ℕ → Option Who
 event_of text = unless_end (who_of text)
-  where
-    unless_end : Option Who → Option Who
-    unless_end None = None
-    unless_end (Some asker) = if is_end asker then None else Some asker
 
 abbrev pub event_before : Option Who → Option (List Who) → Option (List Who)
 event_before None later = None

@@ -1,6 +1,7 @@
 //! The laws of the definitions: each function states one, and does nothing.
 
 ghost use Rattle.vfs_model.specs.ConsistencyLaws.{OpeningWorldIsConsistent, StandingMountsAreApart};
+ghost use Rattle.vfs_model.specs.DeckLaws.{ReadScriptIsInForm};
 ghost use Rattle.vfs_model.specs.Laws.{RefusedStepChangesNothing, WorkerChangesNothing, CoveringMountIsLongest, RefusedWorldStaysSame, PutNodeStands, TakenNodeIsGone, NormalPathHasNormalNames, PrintedPathNamesItself, MountShowsItsTree, UnmountLeavesOtherMounts, MovedSubtreeStands, RenamedSubtreeStands, EmptyMountChangesNoNode};
 ghost use Rattle.vfs_model.specs.TranscriptLaws.{PrintedScheduleIsRead, ReadScheduleIsPrinted, TranscriptNeedsEachEntry, UndefinedTranscriptHasPlace, FrontHasTranscript, WholeScheduleEndsLast, ScriptSaysTurns, EachBlockShowsItsLine};
 
@@ -117,4 +118,9 @@ pub fn script_says_turns()
 /// A session's blocks are those of its lines in their order, each after the lines before it.
 pub fn each_block_shows_its_line()
     ensures { EachBlockShowsItsLine }
+{}
+
+/// A script that is read has its numbers in their ranges, a manifest for each rom, and no name of a rom twice.
+pub fn read_script_is_in_form()
+    ensures { ReadScriptIsInForm }
 {}
