@@ -37,6 +37,7 @@ pub mod RenameStep
 pub mod Rom
 pub mod Schedule
 pub mod Script
+pub mod ShellLaws
 pub mod Shown
 pub mod Tables
 pub mod Talk

@@ -1,6 +1,7 @@
 //! The laws of the definitions: each function states one, and does nothing.
 
 ghost use Rattle.vfs_model.specs.ConsistencyLaws.{OpeningWorldIsConsistent, StandingMountsAreApart};
+ghost use Rattle.vfs_model.specs.ShellLaws.{LineTakesReplies};
 ghost use Rattle.vfs_model.specs.Laws.{RefusedStepChangesNothing, WorkerChangesNothing, CoveringMountIsLongest, RefusedWorldStaysSame, PutNodeStands, TakenNodeIsGone, NormalPathHasNormalNames, PrintedPathNamesItself, MountShowsItsTree, UnmountLeavesOtherMounts, MovedSubtreeStands, RenamedSubtreeStands, EmptyMountChangesNoNode};
 
 /// A step of the namespace that is refused changes neither the namespace nor a row; Shutdown apart.
@@ -76,4 +77,9 @@ pub fn empty_mount_changes_no_node()
 /// In a consistent world no two points have mounts of one number.
 pub fn standing_mounts_are_apart()
     ensures { StandingMountsAreApart }
+{}
+
+/// While a line of the shell asks it has taken in all replies, and once it is finished it looks at no further one.
+pub fn line_takes_replies()
+    ensures { LineTakesReplies }
 {}
