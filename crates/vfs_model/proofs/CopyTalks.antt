@@ -9,7 +9,8 @@ use Rattle.vfs_base.specs.declared.ids.HoldId.{HoldId}
 use Rattle.vfs_model.proofs.ReplyTaking.{asking, if-round, if-takes, showing, turning, two-take, RoundTakes, OptionTakes, known}
 use Rattle.vfs_model.specs.ShellLaws.{TalkTakesReplies}
 use Rattle.vfs_model.specs.Talk.{After, Again, Round, Talk, ask, shows}
-use Rattle.vfs_model.specs.CopyCommands.{CatStage, CopyFile, CopyStage, Reads, Writes, cat, cat_files, cat_opened, cat_round, close_both, close_source, closed, closes, copy_bytes, copy_closed, copy_command, copy_cut, copy_from_start, copy_got, copy_left, copy_read, copy_round, copy_written, cp, destination_opened, echo, echo_left, echo_opened, echo_round, echo_text, is_cut, is_read_out, same_file, source_opened, to_read}
+use Rattle.vfs_model.specs.CopyCommands.{CopyFile, CopyStage, Reads, Writes, close_both, close_source, copy_bytes, copy_closed, copy_command, copy_cut, copy_from_start, copy_got, copy_left, copy_read, copy_round, copy_written, cp, destination_opened, is_cut, same_file, source_opened}
+use Rattle.vfs_model.specs.TextCommands.{CatStage, cat, cat_files, cat_opened, cat_round, closed, closes, echo, echo_left, echo_opened, echo_round, echo_text, is_read_out, to_read}
 use Rattle.vfs_model.specs.CommandText.{with_error}
 use Rattle.vfs_model.specs.Mappings.{is_chr}
 

@@ -15,7 +15,8 @@ use Rattle.vfs_model.proofs.FolderTalks.{step-takes}
 use Rattle.vfs_model.specs.Chain.{refuse◌when◌}
 use Rattle.vfs_model.specs.CommandWords.{flags_of, meaning, number_of, offset_of}
 use Rattle.vfs_model.specs.CopyCommands.{is_cut}
-use Rattle.vfs_model.specs.FileCommands.{add_opened, close, close_descriptor, dup, fsync, ftruncate, ftruncate_form, lseek, lseek_form, open_form, open_words, read, read_form, write_form, close_last, close_replied, cut_checks, cut_done, cut_file, cut_opened, dup_descriptor, file_command, lseek_file, open_path, open_replied, placed_file, read_checks, read_file, read_replied, seek_from, seek_place, seek_sized, sync_file, write, write_checks, write_file, write_replied}
+use Rattle.vfs_model.specs.FileCommands.{cut_checks, cut_file, file_command, fsync, ftruncate, ftruncate_form, lseek, lseek_file, lseek_form, placed_file, read, read_checks, read_file, read_form, read_replied, seek_from, seek_place, seek_sized, sync_file, write, write_checks, write_file, write_form, write_replied}
+use Rattle.vfs_model.specs.OpenCommands.{add_opened, close, close_descriptor, close_last, close_replied, cut_done, cut_opened, dup, dup_descriptor, open_form, open_path, open_replied, open_words}
 use Rattle.vfs_model.specs.OpenFiles.{add_file, close_file, dup_file, has_all_descriptors, open_file, seek}
 use Rattle.vfs_model.specs.OpenStep.{truncates}
 use Rattle.vfs_model.specs.declared.shell_state.OpenFile.{OpenFile}

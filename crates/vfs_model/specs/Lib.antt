@@ -30,6 +30,7 @@ pub mod Namespace
 pub mod NamespaceOutcome
 pub mod NamespaceStep
 pub mod NormalPath
+pub mod OpenCommands
 pub mod OpenFiles
 pub mod OpenStep
 pub mod ReferenceSteps
@@ -41,6 +42,7 @@ pub mod ShellLaws
 pub mod Shown
 pub mod Tables
 pub mod Talk
+pub mod TextCommands
 pub mod Transcript
 pub mod Tree
 pub mod UmountSteps
