@@ -28,6 +28,7 @@ pub mod RefusalExamples
 pub mod RefusedSteps
 pub mod RenameLaws
 pub mod ReplyTaking
+pub mod ShellTables
 pub mod Trees
 pub mod WorkerLaws
 pub mod WorldLaws

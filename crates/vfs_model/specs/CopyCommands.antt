@@ -12,10 +12,16 @@ use Rattle.vfs_base.specs.declared.reply.Reply.TheVariants as reply
 use Rattle.vfs_base.specs.declared.step.Step.{Step}
 use Rattle.vfs_base.specs.declared.step.Step.TheVariants as step
 use Rattle.vfs_model.specs.CommandText.{fails, with_error}
-use Rattle.vfs_model.specs.CommandWords.{same_word, two_words}
+use Rattle.vfs_model.specs.CommandWords.{flags, same_word, two_words}
 use Rattle.vfs_model.specs.Mappings.{is_chr}
 use Rattle.vfs_model.specs.Talk.{After, Again, Round, Talk, ask, ask_holding, ask_in_turn, shows}
-use Rattle.vfs_model.specs.TextCommands.{cat, echo, moved_place, to_read, to_replace}
+use Rattle.vfs_model.specs.TextCommands.{cat, echo, to_read}
+use Rattle.vfs_model.specs.OpenFiles.{moved_place}
+use Rattle.vfs_base.specs.declared.flags.OpenFlags.{OpenFlags}
+
+-- `w,creat`
+abbrev pub to_replace : OpenFlags
+to_replace = flags 6
 
 -- a file that `cp` has opened: its word, its reference, and what it is
 pub record CopyFile : Type 0 where

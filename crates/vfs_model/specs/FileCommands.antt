@@ -13,10 +13,9 @@ use Rattle.vfs_model.specs.Chain.{◌>>=◌, ◌>>◌, refuse◌when◌}
 use Rattle.vfs_model.specs.CommandText.{bytes_line, fails, number_line, usage}
 use Rattle.vfs_model.specs.CommandWords.{meaning, number_of, offset_of, one_word, same_word, three_words, two_words}
 use Rattle.vfs_model.specs.OpenCommands.{close, dup, open_words, with_open_files}
-use Rattle.vfs_model.specs.TextCommands.{moved_place}
 use Rattle.vfs_model.specs.FolderCommands.{one_step}
 use Rattle.vfs_model.specs.Mappings.{is_chr}
-use Rattle.vfs_model.specs.OpenFiles.{open_file, seek, set_place}
+use Rattle.vfs_model.specs.OpenFiles.{moved_place, open_file, seek, set_place}
 use Rattle.vfs_model.specs.Talk.{Talk, ask, changing, checked, shows}
 use Rattle.vfs_model.specs.declared.shell_state.OpenFile.{OpenFile}
 use Rattle.vfs_model.specs.declared.shell_state.OpenFiles.{OpenFiles}

@@ -1,5 +1,5 @@
 -- The open files of a shell, and their descriptors.
-use Rattle.std.specs.Prelude.{ℕ, ◌+◌, ◌-◌, ◌==◌, Bool, false, not, nat_lt, is_none, nat_abs, pos, ℤ, ◌+ℤ◌, int_lt, Option, Some, None, count_by, replicate, slice_index_or, slice_set, Result, Ok, if◌then◌else◌}
+use Rattle.std.specs.Prelude.{ℕ, ◌+◌, ◌^◌, min, ◌-◌, ◌==◌, Bool, false, not, nat_lt, is_none, nat_abs, pos, ℤ, ◌+ℤ◌, int_lt, Option, Some, None, count_by, replicate, slice_index_or, slice_set, Result, Ok, if◌then◌else◌}
 use Rattle.std.specs.List.{list_any, position_or_len}
 use Rattle.std.specs.Option.{option_and_then}
 use Rattle.vfs_base.specs.declared.errno.Errno.{Errno}
@@ -10,6 +10,14 @@ use Rattle.vfs_model.specs.declared.shell_state.OpenFile.{OpenFile}
 use Rattle.vfs_model.specs.declared.shell_state.OpenFiles.{OpenFiles}
 use Rattle.vfs_model.specs.declared.shell_state.Whence.{Whence}
 use Rattle.vfs_model.specs.declared.shell_state.Whence.TheVariants as whence
+
+-- the greatest place of an open file
+abbrev pub place_max : ℕ
+place_max = 2 ^ 63 + 2 ^ 20
+
+-- a place, so many bytes on
+abbrev pub moved_place : ℕ → ℕ → ℕ
+moved_place place count = min (place + count) place_max
 
 -- no descriptor is used
 abbrev pub opening_files : OpenFiles

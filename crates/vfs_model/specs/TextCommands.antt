@@ -1,5 +1,5 @@
 -- The commands that show and append whole texts: `cat` and `echo`. They close what they opened, also behind a refusal.
-use Rattle.std.specs.Prelude.{ℕ, ◌+◌, ◌^◌, min, Bool, true, false, ◌||◌, List, [], ◌∷◌, ◌++◌, length, drop, codes, if◌then◌else◌}
+use Rattle.std.specs.Prelude.{ℕ, Bool, true, false, ◌||◌, List, [], ◌∷◌, ◌++◌, length, drop, codes, if◌then◌else◌}
 use Rattle.vfs_base.specs.declared.flags.OpenFlags.{OpenFlags}
 use Rattle.vfs_base.specs.declared.ids.FileId.{FileId}
 use Rattle.vfs_base.specs.declared.ids.HoldId.{HoldId}
@@ -12,15 +12,8 @@ use Rattle.vfs_base.specs.declared.step.Step.TheVariants as step
 use Rattle.vfs_model.specs.CommandText.{fails, fails_after, line, usage, with_error}
 use Rattle.vfs_model.specs.CommandWords.{flags}
 use Rattle.vfs_model.specs.Mappings.{is_chr}
+use Rattle.vfs_model.specs.OpenFiles.{moved_place}
 use Rattle.vfs_model.specs.Talk.{After, Again, Round, Talk, ask, ask_holding, ask_in_turn, shows}
-
--- the greatest place of an open file
-abbrev pub place_max : ℕ
-place_max = 2 ^ 63 + 2 ^ 20
-
--- a place, so many bytes on
-abbrev pub moved_place : ℕ → ℕ → ℕ
-moved_place place count = min (place + count) place_max
 
 abbrev pub is_nothing : List ℕ → Bool
 is_nothing [] = true
@@ -30,12 +23,9 @@ is_nothing (byte ∷ bytes) = false
 abbrev pub is_read_out : Kind → List ℕ → Bool
 is_read_out kind bytes = is_chr kind || is_nothing bytes
 
--- `r`, `w,creat` and `w,creat,append`
+-- `r`, and `w,creat,append`
 abbrev pub to_read : OpenFlags
 to_read = flags 1
-
-abbrev pub to_replace : OpenFlags
-to_replace = flags 6
 
 abbrev pub to_append : OpenFlags
 to_append = flags 38

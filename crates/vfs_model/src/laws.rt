@@ -1,7 +1,7 @@
 //! The laws of the definitions: each function states one, and does nothing.
 
 ghost use Rattle.vfs_model.specs.ConsistencyLaws.{OpeningWorldIsConsistent, StandingMountsAreApart};
-ghost use Rattle.vfs_model.specs.ShellLaws.{LineTakesReplies};
+ghost use Rattle.vfs_model.specs.ShellLaws.{AddedMappingGoesBack, DupSharesFile, LineTakesReplies, WholeLinesEnd};
 ghost use Rattle.vfs_model.specs.Laws.{RefusedStepChangesNothing, WorkerChangesNothing, CoveringMountIsLongest, RefusedWorldStaysSame, PutNodeStands, TakenNodeIsGone, NormalPathHasNormalNames, PrintedPathNamesItself, MountShowsItsTree, UnmountLeavesOtherMounts, MovedSubtreeStands, RenamedSubtreeStands, EmptyMountChangesNoNode};
 
 /// A step of the namespace that is refused changes neither the namespace nor a row; Shutdown apart.
@@ -82,4 +82,19 @@ pub fn standing_mounts_are_apart()
 /// While a line of the shell asks it has taken in all replies, and once it is finished it looks at no further one.
 pub fn line_takes_replies()
     ensures { LineTakesReplies }
+{}
+
+/// A text that is shown in a block is empty, or its last byte is a line feed.
+pub fn whole_lines_end()
+    ensures { WholeLinesEnd }
+{}
+
+/// A descriptor made by dup leads to the same open file, and so has its place; no other descriptor changes.
+pub fn dup_shares_file()
+    ensures { DupSharesFile }
+{}
+
+/// A mapping that was added is there, and taken away again it leaves the mappings as before.
+pub fn added_mapping_goes_back()
+    ensures { AddedMappingGoesBack }
 {}
