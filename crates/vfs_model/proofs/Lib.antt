@@ -28,6 +28,8 @@ pub mod RefusalExamples
 pub mod RefusedSteps
 pub mod RenameLaws
 pub mod ReplyTaking
+pub mod ShellExamples
+pub mod ShellRuns
 pub mod ShellTables
 pub mod Trees
 pub mod WorkerLaws

@@ -101,6 +101,13 @@ whence_place file whence.Set = 0
 whence_place file whence.Cur = file.place
 whence_place file (whence.End size) = size
 
+-- the place at an offset from another one
+abbrev pub sought_place : ℕ → ℤ → Result ℕ Errno
+sought_place from off = do
+  refuse errno.EINVAL when int_lt (pos from +ℤ off) (pos 0)
+  refuse errno.EOVERFLOW when int_lt (pos OFF_MAX) (pos from +ℤ off)
+  Ok (nat_abs (pos from +ℤ off))
+
 -- a place that was sought, and the open files with it
 pub record Sought : Type 0 where
   pub place : ℕ
@@ -110,10 +117,9 @@ pub record Sought : Type 0 where
 unfoldable pub seek : OpenFiles → ℕ → ℤ → Whence → Result Sought Errno
 seek open_files fd off whence = do
   file ← open_file open_files fd
-  refuse errno.EINVAL when int_lt (pos (whence_place file whence) +ℤ off) (pos 0)
-  refuse errno.EOVERFLOW when int_lt (pos OFF_MAX) (pos (whence_place file whence) +ℤ off)
-  moved ← set_place open_files fd (nat_abs (pos (whence_place file whence) +ℤ off))
-  Ok (record { place = nat_abs (pos (whence_place file whence) +ℤ off); open_files = moved })
+  place ← sought_place (whence_place file whence) off
+  moved ← set_place open_files fd place
+  Ok (record { place = place; open_files = moved })
 
 -- a descriptor of the open file of this number
 abbrev pub leads_to : ℕ → Option ℕ → Bool
