@@ -161,3 +161,51 @@ pub a_character_device_through_devfs : texts (opening_world [] devices) (
     ∷ (line (codes "uart0 char mounted") ++ line (codes "null char mounted")) ∷ []
 unfolding shell steps
 a_character_device_through_devfs = refl
+
+pub an_unlinked_file_is_mapped : texts (opening_world [] bare) (
+    types 1 (codes "open /f rw,creat")
+    ∷ types 1 (codes "write 03 hello")
+    ∷ types 1 (codes "rm /f")
+    ∷ types 1 (codes "mmap 3 0 8 rw")
+    ∷ types 1 (codes "dup 3")
+    ∷ types 1 (codes "close 03")
+    ∷ types 1 (codes "close 4")
+    ∷ types 1 (codes "mstore 1 0 J")
+    ∷ types 1 (codes "mload 1 0 5")
+    ∷ types 1 (codes "mload 1 0 6")
+    ∷ types 1 (codes "mload 1 0 9")
+    ∷ types 1 (codes "msync 1")
+    ∷ types 1 (codes "dentries")
+    ∷ types 1 (codes "munmap 1")
+    ∷ types 1 (codes "munmap 1")
+    ∷ types 1 (codes "dentries")
+    ∷ []) ≡
+    fd 3 ∷ number 5 ∷ [] ∷ line (codes "window " ++ decimal 1) ∷ fd 4 ∷ [] ∷ [] ∷ number 1 ∷ bytes 5 (codes "Jello")
+    ∷ line (codes "mload: 1: EFAULT") ∷ line (codes "mload: 1: EFAULT") ∷ []
+    ∷ flat_map line ((codes "/ " ++ decimal 9) ∷ (codes "(row " ++ decimal 1 ++ codes ")" ++ codes " " ++ decimal 1) ∷ [])
+    ∷ [] ∷ line (codes "munmap: 1: EINVAL") ∷ flat_map line ((codes "/ " ++ decimal 9) ∷ []) ∷ []
+unfolding shell steps
+an_unlinked_file_is_mapped = refl
+
+-- the place of a shared open file, and appends of two sessions
+pub appends_go_to_the_end_of_the_file : texts (opening_world [] bare) (
+    types 1 (codes "open /f w,creat,append")
+    ∷ types 2 (codes "open /f rw")
+    ∷ types 1 (codes "write 3 ab")
+    ∷ types 2 (codes "write 3 c")
+    ∷ types 1 (codes "write 3 d")
+    ∷ types 2 (codes "dup 3")
+    ∷ types 2 (codes "read 4 9")
+    ∷ types 2 (codes "lseek 3 0 cur")
+    ∷ types 1 (codes "read 3 9")
+    ∷ types 2 (codes "open /f w,trunc")
+    ∷ types 2 (codes "lseek 3 -1 end")
+    ∷ types 1 (codes "cat /f")
+    ∷ types 1 (codes "write 3 \"x\\\" 2")
+    ∷ types 2 (codes "lseek 3 0 set")
+    ∷ types 2 (codes "read 4 9")
+    ∷ []) ≡
+    fd 3 ∷ fd 3 ∷ number 2 ∷ number 1 ∷ number 1 ∷ fd 4 ∷ bytes 2 (codes "bd") ∷ number 3 ∷ line (codes "read: 3: EBADF") ∷ fd 5
+    ∷ line (codes "lseek: 3: EINVAL") ∷ [] ∷ number 4 ∷ number 0 ∷ bytes 4 (codes "x\\\\x\\\\") ∷ []
+unfolding shell steps
+appends_go_to_the_end_of_the_file = refl
