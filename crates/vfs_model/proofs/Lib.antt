@@ -2,6 +2,8 @@ pub mod BlockLemmas
 pub mod CacheExamples
 pub mod CommandExamples
 pub mod CommandRuns
+pub mod CopyCommandExamples
+pub mod CopyTalks
 pub mod CoveringMounts
 pub mod DeckLemmas
 pub mod DeckLineLemmas
@@ -10,8 +12,17 @@ pub mod DeviceTexts
 pub mod EmptyMounts
 pub mod ExampleSteps
 pub mod Examples
+pub mod FileCommandExamples
+pub mod FileTalks
+pub mod FolderCommandExamples
+pub mod FolderTalks
+pub mod LineTalks
+pub mod MappingCommandExamples
+pub mod MappingTalks
 pub mod MarkExamples
+pub mod MountCommandExamples
 pub mod MountLaws
+pub mod MountTalks
 pub mod MountsApart
 pub mod MovedLaws
 pub mod NodeLaws
@@ -20,6 +31,7 @@ pub mod OpeningLaws
 pub mod RefusalExamples
 pub mod RefusedSteps
 pub mod RenameLaws
+pub mod ReplyTaking
 pub mod ScheduleExactness
 pub mod ScheduleExamples
 pub mod ScheduleLemmas
@@ -27,6 +39,9 @@ pub mod ScheduleReading
 pub mod ScriptExamples
 pub mod SessionExamples
 pub mod SharedFileExamples
+pub mod ShellExamples
+pub mod ShellRuns
+pub mod ShellTables
 pub mod TranscriptExamples
 pub mod TranscriptLemmas
 pub mod TranscriptRuns

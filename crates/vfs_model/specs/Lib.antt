@@ -35,6 +35,7 @@ pub mod NamespaceOutcome
 pub mod NamespaceStep
 pub mod NormalPath
 pub mod Numeral
+pub mod OpenCommands
 pub mod OpenFiles
 pub mod OpenStep
 pub mod ReferenceSteps
@@ -44,11 +45,13 @@ pub mod Schedule
 pub mod Script
 pub mod ScriptRun
 pub mod Session
+pub mod ShellLaws
 pub mod Shown
 pub mod Soak
 pub mod Summary
 pub mod Tables
 pub mod Talk
+pub mod TextCommands
 pub mod Transcript
 pub mod TranscriptLaws
 pub mod Tree

@@ -2,6 +2,7 @@
 
 ghost use Rattle.vfs_model.specs.ConsistencyLaws.{OpeningWorldIsConsistent, StandingMountsAreApart};
 ghost use Rattle.vfs_model.specs.DeckLaws.{ReadScriptIsInForm};
+ghost use Rattle.vfs_model.specs.ShellLaws.{AddedMappingGoesBack, DupSharesFile, LineTakesReplies, WholeLinesEnd};
 ghost use Rattle.vfs_model.specs.Laws.{RefusedStepChangesNothing, WorkerChangesNothing, CoveringMountIsLongest, RefusedWorldStaysSame, PutNodeStands, TakenNodeIsGone, NormalPathHasNormalNames, PrintedPathNamesItself, MountShowsItsTree, UnmountLeavesOtherMounts, MovedSubtreeStands, RenamedSubtreeStands, EmptyMountChangesNoNode};
 ghost use Rattle.vfs_model.specs.TranscriptLaws.{PrintedScheduleIsRead, ReadScheduleIsPrinted, TranscriptNeedsEachEntry, UndefinedTranscriptHasPlace, FrontHasTranscript, WholeScheduleEndsLast, ScriptSaysTurns, EachBlockShowsItsLine};
 
@@ -123,4 +124,24 @@ pub fn each_block_shows_its_line()
 /// A script that is read has its numbers in their ranges, a manifest for each rom, and no name of a rom twice.
 pub fn read_script_is_in_form()
     ensures { ReadScriptIsInForm }
+{}
+
+/// While a line of the shell asks it has taken in all replies, and once it is finished it looks at no further one.
+pub fn line_takes_replies()
+    ensures { LineTakesReplies }
+{}
+
+/// A text that is shown in a block is empty, or its last byte is a line feed.
+pub fn whole_lines_end()
+    ensures { WholeLinesEnd }
+{}
+
+/// A descriptor made by dup leads to the same open file, and so has its place; no other descriptor changes.
+pub fn dup_shares_file()
+    ensures { DupSharesFile }
+{}
+
+/// A mapping that was added is there, and taken away again it leaves the mappings as before.
+pub fn added_mapping_goes_back()
+    ensures { AddedMappingGoesBack }
 {}
