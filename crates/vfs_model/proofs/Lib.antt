@@ -16,6 +16,7 @@ pub mod FileCommandExamples
 pub mod FileTalks
 pub mod FolderCommandExamples
 pub mod FolderTalks
+pub mod GrowingRuns
 pub mod LineTalks
 pub mod MappingCommandExamples
 pub mod MappingTalks

@@ -12,8 +12,8 @@ use Rattle.vfs_base.specs.declared.limits.TheConstants.{ROWS, SESSIONS}
 use Rattle.vfs_base.specs.declared.reply.Reply.{Reply}
 use Rattle.vfs_model.specs.Command.{line_talk}
 use Rattle.vfs_model.specs.Schedule.{is_end_last, schedule_entries, schedule_line, schedule_text}
-use Rattle.vfs_model.specs.Session.{SessionRun, block_of, session_run}
-use Rattle.vfs_model.specs.ScriptRun.{first_untaken, has_ended, state_after, take_entry}
+use Rattle.vfs_model.specs.Session.{SessionRun, block_of, is_pending, session_run, wanted_step}
+use Rattle.vfs_model.specs.ScriptRun.{RunState, first_untaken, has_ended, run_of, state_after, take_entry}
 use Rattle.vfs_model.specs.Transcript.{shown, transcript}
 use Rattle.vfs_model.specs.Turns.{FollowsScript}
 use Rattle.vfs_model.specs.declared.script_form.ScriptForm.{ScriptForm}
@@ -116,3 +116,14 @@ EachBlockShowsItsLine = (lines : List (List ℕ)) (replies : List Reply) (i : �
     i < length (session_run lines replies).blocks →
     (i < length lines)
     × ShowsLine (session_run (take i lines) replies) (slice_index_or lines i []) (slice_index_or (session_run lines replies).blocks i [])
+
+-- what a session was shown stays: after more of a schedule its blocks are those that it had, and others behind them
+abbrev pub ShownBlocksStay : Type 0
+ShownBlocksStay = (deck : Deck) (describe : Describe) (front rest : List Entry) (before after : RunState) (k : ℕ) →
+    state_after deck describe front ≡ Some before → state_after deck describe (front ++ rest) ≡ Some after →
+    (later : List (List ℕ)) × ((run_of deck after k).blocks ≡ (run_of deck before k).blocks ++ later)
+
+-- the step that a pending command asks is the one that its session wants, whatever lines are posted behind it
+abbrev pub PendingStepIsWanted : Type 0
+PendingStepIsWanted = (posted more : List (List ℕ)) (replies : List Reply) → is_pending (session_run posted replies) ≡ true →
+    wanted_step (session_run (posted ++ more) replies) ≡ (session_run posted replies).wanted

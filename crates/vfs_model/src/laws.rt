@@ -4,7 +4,7 @@ ghost use Rattle.vfs_model.specs.ConsistencyLaws.{OpeningWorldIsConsistent, Stan
 ghost use Rattle.vfs_model.specs.DeckLaws.{ReadScriptIsInForm};
 ghost use Rattle.vfs_model.specs.ShellLaws.{AddedMappingGoesBack, DupSharesFile, LineTakesReplies, WholeLinesEnd};
 ghost use Rattle.vfs_model.specs.Laws.{RefusedStepChangesNothing, WorkerChangesNothing, CoveringMountIsLongest, RefusedWorldStaysSame, PutNodeStands, TakenNodeIsGone, NormalPathHasNormalNames, PrintedPathNamesItself, MountShowsItsTree, UnmountLeavesOtherMounts, MovedSubtreeStands, RenamedSubtreeStands, EmptyMountChangesNoNode};
-ghost use Rattle.vfs_model.specs.TranscriptLaws.{PrintedScheduleIsRead, ReadScheduleIsPrinted, TranscriptNeedsEachEntry, UndefinedTranscriptHasPlace, FrontHasTranscript, WholeScheduleEndsLast, ScriptSaysTurns, EachBlockShowsItsLine};
+ghost use Rattle.vfs_model.specs.TranscriptLaws.{PrintedScheduleIsRead, ReadScheduleIsPrinted, TranscriptNeedsEachEntry, UndefinedTranscriptHasPlace, FrontHasTranscript, WholeScheduleEndsLast, ScriptSaysTurns, EachBlockShowsItsLine, ShownBlocksStay, PendingStepIsWanted};
 
 /// A step of the namespace that is refused changes neither the namespace nor a row; Shutdown apart.
 pub fn refused_step_changes_nothing()
@@ -119,6 +119,16 @@ pub fn script_says_turns()
 /// A session's blocks are those of its lines in their order, each after the lines before it.
 pub fn each_block_shows_its_line()
     ensures { EachBlockShowsItsLine }
+{}
+
+/// What a session was shown stays: more of a schedule adds blocks behind those that are there.
+pub fn shown_blocks_stay()
+    ensures { ShownBlocksStay }
+{}
+
+/// The step that a pending command asks is the one that its session wants, whatever is posted behind it.
+pub fn pending_step_is_wanted()
+    ensures { PendingStepIsWanted }
 {}
 
 /// A script that is read has its numbers in their ranges, a manifest for each rom, and no name of a rom twice.
