@@ -1,5 +1,5 @@
 -- A session's run grows with its replies and its lines.
-use Rattle.std.proofs.Common.{◌≡◌, ℕ, zero, suc, ◌+◌, ◌-◌, Bool, true, false, Option, Some, None, List, [], ◌∷◌, ◌++◌, set, get_or, refl, sym, ap, ◌∙◌, subst, arith, append_assoc, append-nil}
+use Rattle.std.proofs.Common.{◌≡◌, ℕ, zero, suc, ◌-◌, Bool, true, false, Option, Some, None, List, [], ◌∷◌, ◌++◌, set, get_or, refl, sym, ap, ◌∙◌, subst, append_assoc, append-nil}
 use Rattle.std.specs.Prelude.{is_some, cond}
 use Rattle.std.specs.Option.{option_and_then}
 use Rattle.vfs_base.specs.declared.deck.Deck.{Deck}
@@ -13,13 +13,12 @@ use Rattle.vfs_model.proofs.LineTalks.{line-takes}
 use Rattle.vfs_model.proofs.TranscriptLemmas.{take_entries-append}
 use Rattle.vfs_model.specs.Command.{line_talk}
 use Rattle.vfs_model.specs.Deck.{session_lines}
-use Rattle.vfs_model.specs.ScriptRun.{RunState, entry_step, heard_after, heard_by, opening_state, state_after, take_entries, take_entry, take_step}
-use Rattle.vfs_model.specs.Session.{SessionRun, after_line, block_before, block_of, is_pending, lines_run, session_run, wanted_step}
+use Rattle.vfs_model.specs.ScriptRun.{RunState, entry_step, heard_after, heard_by, opening_state, take_entries, take_entry, take_step}
+use Rattle.vfs_model.specs.Session.{SessionRun, after_line, block_before, block_of, is_pending, lines_run, session_run}
 use Rattle.vfs_model.specs.ShellLaws.{is_finished, with_left}
 use Rattle.vfs_model.specs.Talk.{Answer}
 use Rattle.vfs_model.specs.TranscriptLaws.{PendingStepIsWanted, ShownBlocksStay}
 use Rattle.vfs_model.specs.World.{fits_step}
-use Rattle.vfs_model.specs.declared.shell_state.Next.{Next}
 use Rattle.vfs_model.specs.declared.shell_state.Next.TheVariants as next
 use Rattle.vfs_model.specs.declared.shell_state.ShellState.{ShellState}
 
@@ -41,7 +40,7 @@ blocks-grow (line ∷ lines) state replies more =
           let longer : line_talk line state (replies ++ more) ≡ with_left answer more = (line-takes line state replies).finished (ap is_finished e) more in
           let now = finished-line state line text answer (lines_run lines) e in
           let later : lines_run (line ∷ lines) state (replies ++ more) ≡ block_before (block_of state.shown line text) (lines_run lines answer.state (answer.left ++ more)) =
-              ap (λ a. after_line state line a (lines_run lines)) longer ∙ finished-line state line text (with_left answer more) (lines_run lines) e in
+          ap (λ a. after_line state line a (lines_run lines)) longer ∙ finished-line state line text (with_left answer more) (lines_run lines) e in
           let inner = blocks-grow lines answer.state answer.left more in
           (inner.0, ap (λ r. r.blocks) later ∙ ap (λ blocks. block_of state.shown line text ∷ blocks) inner.1 ∙ sym (ap (λ r. r.blocks ++ inner.0) now))
     ] refl
@@ -67,9 +66,11 @@ entry-grows deck s t entry k e = by_over s.is_over e
     by_fit : (b : Bool) (next : RunState) → Grows (heard_by s k) (heard_by next k) → cond b (Some next) None ≡ Some t → Grows (heard_by s k) (heard_by t k)
     by_fit true next h e = let same : next ≡ t = cc in subst (λ r. Grows (heard_by s k) (heard_by r k)) same h
     by_fit false next h e = absurd (cc)
+
     by_step : (x : Option Step) → take_step s entry x ≡ Some t → Grows (heard_by s k) (heard_by t k)
     by_step None e = absurd (cc)
     by_step (Some asked) e = by_fit (fits_step s.world entry.who asked entry.mark) _ (heard-grows s.heard entry.who _ (k - 1)) e
+
     by_over : (b : Bool) → cond b None (take_step s entry (entry_step deck s entry.who)) ≡ Some t → Grows (heard_by s k) (heard_by t k)
     by_over true e = absurd (cc)
     by_over false e = by_step (entry_step deck s entry.who) e
@@ -90,7 +91,7 @@ pub shown-stays : ShownBlocksStay
 unfolding session_run
 shown-stays deck describe front rest before after k e f =
     let both : take_entries deck before rest ≡ Some after =
-        sym (ap (option_and_then (λ t. take_entries deck t rest)) e) ∙ sym (take_entries-append deck (opening_state deck describe) front rest) ∙ f in
+    sym (ap (option_and_then (λ t. take_entries deck t rest)) e) ∙ sym (take_entries-append deck (opening_state deck describe) front rest) ∙ f in
     let heard = entries-grow deck before after rest k both in
     let grown = blocks-grow (session_lines deck k) _ (heard_by before k) heard.0 in
     (grown.0, ap (λ replies. (session_run (session_lines deck k) replies).blocks) heard.1 ∙ grown.1)

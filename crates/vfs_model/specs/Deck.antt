@@ -20,6 +20,7 @@ pub record DeckDraft : Type 0 where
   pub deck : Deck
   pub rom : Option OpenRom
 
+-- the script without lines
 abbrev pub empty_deck : Deck
 empty_deck = record { roms = []; acts = [] }
 
@@ -27,6 +28,7 @@ empty_deck = record { roms = []; acts = [] }
 abbrev pub new_rom : List ℕ → OpenRom
 new_rom name = record { name = name; text = []; draft = record { items = []; last_file = None } }
 
+-- the name is one of a rom
 abbrev pub has_rom : Deck → List ℕ → Bool
 has_rom deck name = list_any (λ rom. same_bytes rom.name name) deck.roms
 
@@ -56,6 +58,7 @@ with_line_at deck (Some rom) raw = with_rom_line deck rom raw
 abbrev pub with_raw_line : DeckDraft → List ℕ → Option DeckDraft
 with_raw_line draft raw = with_line_at draft.deck draft.rom raw
 
+-- what follows from the draft, or the number of the line where there is none
 abbrev pub or_bad_line : ℕ → Option DeckDraft → (DeckDraft → Result Deck ℕ) → Result Deck ℕ
 or_bad_line number None go = Err number
 or_bad_line number (Some draft) go = go draft

@@ -33,6 +33,7 @@ IsMark mark.Clear = Unit {0}
 IsMark (mark.Fault n) = n < 2 ^ 64
 IsMark (mark.NoMem n) = n < 2 ^ 64
 
+-- both parts of an entry are in their ranges
 abbrev pub IsEntry : Entry → Type 0
 IsEntry entry = IsWho entry.who × IsMark entry.mark
 
