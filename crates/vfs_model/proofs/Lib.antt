@@ -31,6 +31,7 @@ pub mod ReplyTaking
 pub mod ShellExamples
 pub mod ShellRuns
 pub mod ShellTables
+pub mod SoundDescriptors
 pub mod Trees
 pub mod WorkerLaws
 pub mod WorldLaws

@@ -9,6 +9,7 @@ pub mod Consistency
 pub mod ConsistencyLaws
 pub mod Content
 pub mod CopyCommands
+pub mod DescriptorLaws
 pub mod FileCommands
 pub mod FileLife
 pub mod FileMoves
