@@ -12,6 +12,8 @@ pub mod FileCommandExamples
 pub mod FileTalks
 pub mod FolderCommandExamples
 pub mod FolderTalks
+pub mod FreePlaces
+pub mod LeadCounts
 pub mod LineTalks
 pub mod MappingCommandExamples
 pub mod MappingTalks
