@@ -16,7 +16,9 @@ pub mod FileCommandExamples
 pub mod FileTalks
 pub mod FolderCommandExamples
 pub mod FolderTalks
+pub mod FreePlaces
 pub mod GrowingRuns
+pub mod LeadCounts
 pub mod LineTalks
 pub mod MappingCommandExamples
 pub mod MappingTalks
@@ -43,6 +45,7 @@ pub mod SharedFileExamples
 pub mod ShellExamples
 pub mod ShellRuns
 pub mod ShellTables
+pub mod SoundDescriptors
 pub mod TranscriptExamples
 pub mod TranscriptLemmas
 pub mod TranscriptRuns

@@ -1,5 +1,5 @@
 -- Descriptors and mappings that are added and taken away.
-use Rattle.std.proofs.Common.{◌≡◌, ◌≢◌, ℕ, zero, suc, ◌+◌, ◌-◌, ◌<◌, Bool, true, false, not, ◌==◌, nat_lt, is_none, Option, Some, None, Result, Ok, List, [], ◌∷◌, ◌++◌, length, slice_index_or, slice_set, if◌then◌else◌, ◌⊎◌, inl, inr, eqb, refl, sym, ap, subst, ◌∙◌, arith}
+use Rattle.std.proofs.Common.{◌≡◌, ◌≢◌, ℕ, zero, suc, ◌+◌, ◌-◌, ◌<◌, Bool, true, false, not, ◌==◌, nat_lt, is_none, Option, Some, None, Ok, List, [], ◌∷◌, ◌++◌, length, slice_index_or, slice_set, if◌then◌else◌, ◌⊎◌, inl, inr, eqb, refl, sym, ap, subst, ◌∙◌, arith}
 use Rattle.std.specs.List.{list_any, position_or_len, last_or}
 use Rattle.std.proofs.lemmas.List.{get_or-set_same, get_or-set_other}
 use Rattle.std.proofs.lemmas.Bool.{le-ltb, ltb-false}
@@ -13,26 +13,7 @@ use Rattle.vfs_model.specs.OpenFiles.{NewDescriptor, dup_file, file_number, has_
 use Rattle.vfs_model.specs.ShellLaws.{AddsMapping, AddedMappingGoesBack, DupSharesFile, EndsItsLine, LeadsAnew, SharesFile, WholeLinesEnd}
 use Rattle.vfs_model.specs.declared.shell_state.OpenFiles.{OpenFiles}
 use Rattle.vfs_model.specs.declared.shell_state.Window.{Window}
-
--- where one of the places is free, the first free one is among them, and free
-free-lt : {X : Type 0} (xs : List (Option X)) → list_any is_none xs ≡ true → position_or_len is_none xs < length xs
-free-lt [] e = absurd (cc)
-free-lt (None ∷ xs) e = omega arith
-free-lt (Some x ∷ xs) e = let l = free-lt xs e in omega arith
-
-free-none : {X : Type 0} (xs : List (Option X)) → slice_index_or xs (position_or_len is_none xs) None ≡ None
-free-none [] = refl
-free-none (None ∷ xs) = refl
-free-none (Some x ∷ xs) =
-    let next : 1 + position_or_len is_none xs ≡ suc (position_or_len is_none xs) = omega arith in
-    ap (λ k. slice_index_or (Some x ∷ xs) k None) next ∙ free-none xs
-
-not-full : (free : Bool) → not free ≡ false → free ≡ true
-not-full true e = refl
-not-full false e = absurd (cc)
-
-ok-same : {X E : Type 0} (a b : X) (r : Result X E) → Ok a ≡ r → r ≡ Ok b → a ≡ b
-ok-same a b r p q = cc
+use Rattle.vfs_model.proofs.FreePlaces.{free-lt, free-none, not-full, ok-same}
 
 -- the last byte of a line
 last-line : (last : Option ℕ) (text : List ℕ) → last_or last (text ++ 10 ∷ []) ≡ Some 10

@@ -12,6 +12,7 @@ pub mod CopyCommands
 pub mod Deck
 pub mod DeckLaws
 pub mod DeckLine
+pub mod DescriptorLaws
 pub mod FileCommands
 pub mod FileLife
 pub mod FileMoves

@@ -2,6 +2,7 @@
 
 ghost use Rattle.vfs_model.specs.ConsistencyLaws.{OpeningWorldIsConsistent, StandingMountsAreApart};
 ghost use Rattle.vfs_model.specs.DeckLaws.{ReadScriptIsInForm};
+ghost use Rattle.vfs_model.specs.DescriptorLaws.{StaysSound};
 ghost use Rattle.vfs_model.specs.ShellLaws.{AddedMappingGoesBack, DupSharesFile, LineTakesReplies, WholeLinesEnd};
 ghost use Rattle.vfs_model.specs.Laws.{RefusedStepChangesNothing, WorkerChangesNothing, CoveringMountIsLongest, RefusedWorldStaysSame, PutNodeStands, TakenNodeIsGone, NormalPathHasNormalNames, PrintedPathNamesItself, MountShowsItsTree, UnmountLeavesOtherMounts, MovedSubtreeStands, RenamedSubtreeStands, EmptyMountChangesNoNode};
 ghost use Rattle.vfs_model.specs.TranscriptLaws.{PrintedScheduleIsRead, ReadScheduleIsPrinted, TranscriptNeedsEachEntry, UndefinedTranscriptHasPlace, FrontHasTranscript, WholeScheduleEndsLast, ScriptSaysTurns, EachBlockShowsItsLine, ShownBlocksStay, PendingStepIsWanted};
@@ -154,4 +155,9 @@ pub fn dup_shares_file()
 /// A mapping that was added is there, and taken away again it leaves the mappings as before.
 pub fn added_mapping_goes_back()
     ensures { AddedMappingGoesBack }
+{}
+
+/// The open files of a shell are sound at the start, and stay so: a file is open exactly where a descriptor leads to it.
+pub fn open_files_stay_sound()
+    ensures { StaysSound }
 {}
