@@ -69,7 +69,7 @@ unfolding session_run
 each-block-shows lines replies i h = block-shows lines _ replies i h
 
 -- an entry that is taken ends everything just where it is the end
-take-over : (deck : Deck) (s t : RunState) (entry : Entry) → take_entry deck s entry ≡ Some t → t.is_over ≡ is_end entry.who
+pub take-over : (deck : Deck) (s t : RunState) (entry : Entry) → take_entry deck s entry ≡ Some t → t.is_over ≡ is_end entry.who
 unfolding take_entry
 take-over deck s t entry e = by_over s.is_over e
   where

@@ -59,7 +59,7 @@ heard-grows heard (who.Flush row) reply j = ([], sym (append-nil (get_or heard j
 heard-grows heard (who.Reclaim row) reply j = ([], sym (append-nil (get_or heard j [])))
 heard-grows heard who.End reply j = ([], sym (append-nil (get_or heard j [])))
 
-entry-grows : (deck : Deck) (s t : RunState) (entry : Entry) (k : ℕ) → take_entry deck s entry ≡ Some t → Grows (heard_by s k) (heard_by t k)
+pub entry-grows : (deck : Deck) (s t : RunState) (entry : Entry) (k : ℕ) → take_entry deck s entry ≡ Some t → Grows (heard_by s k) (heard_by t k)
 unfolding take_entry
 entry-grows deck s t entry k e = by_over s.is_over e
   where

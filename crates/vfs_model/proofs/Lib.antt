@@ -9,6 +9,7 @@ pub mod DeckLemmas
 pub mod DeckLineLemmas
 pub mod DeviceExamples
 pub mod DeviceTexts
+pub mod DoneSessions
 pub mod EmptyMounts
 pub mod ExampleSteps
 pub mod Examples
