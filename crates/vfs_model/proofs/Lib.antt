@@ -52,6 +52,7 @@ pub mod TranscriptLemmas
 pub mod TranscriptRuns
 pub mod Trees
 pub mod TurnLemmas
+pub mod TurnProgress
 pub mod UntakenLemmas
 pub mod WorkerLaws
 pub mod WorldLaws
