@@ -1,5 +1,5 @@
 -- A session with nothing pending, and one that is done, stay so.
-use Rattle.std.proofs.Common.{◌≡◌, ℕ, zero, suc, ◌+◌, ◌≤◌, Bool, true, false, not, cond, ◌&&◌, Option, Some, None, List, [], ◌∷◌, ◌++◌, length, refl, sym, ap, ◌∙◌, subst, arith, length-append}
+use Rattle.std.proofs.Common.{◌≡◌, ℕ, zero, suc, ◌≤◌, Bool, true, false, cond, ◌&&◌, Option, Some, None, List, [], ◌∷◌, ◌++◌, length, refl, sym, ap, ◌∙◌, arith, length-append}
 use Rattle.std.specs.Prelude.{is_some, is_none, slice_get}
 use Rattle.std.specs.List.{list_all}
 use Rattle.vfs_base.specs.declared.deck.Deck.{Deck}
@@ -14,7 +14,6 @@ use Rattle.vfs_model.specs.ScriptRun.{RunState, heard_by, is_done, run_of}
 use Rattle.vfs_model.specs.Session.{SessionRun, after_line, block_before, block_of, exit_step, exit_steps, is_pending, lines_run, session_run, wanted_step}
 use Rattle.vfs_model.specs.ShellLaws.{is_finished, with_left}
 use Rattle.vfs_model.specs.Talk.{Answer}
-use Rattle.vfs_model.specs.declared.shell_state.Next.{Next}
 use Rattle.vfs_model.specs.declared.shell_state.Next.TheVariants as next
 use Rattle.vfs_model.specs.declared.shell_state.ShellState.{ShellState}
 
@@ -33,7 +32,7 @@ idle-run (line ∷ lines) state replies more h =
           let taken : line_talk line state (replies ++ more) ≡ with_left answer more = (line-takes line state replies).finished (ap is_finished e) more in
           let now = finished-line state line text answer (lines_run lines) e in
           let later : lines_run (line ∷ lines) state (replies ++ more) ≡ block_before (block_of state.shown line text) (lines_run lines answer.state (answer.left ++ more)) =
-              ap (λ a. after_line state line a (lines_run lines)) taken ∙ finished-line state line text (with_left answer more) (lines_run lines) e in
+          ap (λ a. after_line state line a (lines_run lines)) taken ∙ finished-line state line text (with_left answer more) (lines_run lines) e in
           let idle : is_pending (lines_run lines answer.state answer.left) ≡ false = ap is_pending (sym now) ∙ h in
           later ∙ ap (block_before (block_of state.shown line text)) (idle-run lines answer.state answer.left more idle) ∙ ap (λ r. longer r more) (sym now)
     ] refl
@@ -72,7 +71,7 @@ done-stays deck s t k e g =
     let parts = done-parts run e in
     let more = idle-longer deck s t k parts.0 g in
     let exit : is_none (exit_step (longer run g.0)) ≡ true =
-        past-end (exit_steps run) (length run.left) (length (run.left ++ g.0)) (omega (arith, length-append run.left g.0)) parts.1 in
+    past-end (exit_steps run) (length run.left) (length (run.left ++ g.0)) (omega (arith, length-append run.left g.0)) parts.1 in
     ap (λ r. is_none (wanted_step r)) more ∙ parts-done (longer run g.0) parts.0 exit
 
 pub all-stay : (p q : ℕ → Bool) (ks : List ℕ) → ((k : ℕ) → p k ≡ true → q k ≡ true) → list_all p ks ≡ true → list_all q ks ≡ true

@@ -51,6 +51,7 @@ pub mod TranscriptExamples
 pub mod TranscriptLemmas
 pub mod TranscriptRuns
 pub mod Trees
+pub mod TurnEnds
 pub mod TurnLemmas
 pub mod TurnProgress
 pub mod UntakenLemmas

@@ -15,7 +15,7 @@ both-true : (a b : Bool) → (a && b) ≡ true → (a ≡ true) × (b ≡ true)
 both-true true b h = (refl, h)
 both-true false b h = absurd (cc)
 
-same_who-is : (a b : Who) → same_who a b ≡ true → a ≡ b
+pub same_who-is : (a b : Who) → same_who a b ≡ true → a ≡ b
 same_who-is (who.Session j) (who.Session k) h = ap who.Session (grind arith)
 same_who-is (who.Flush p) (who.Flush q) h = ap who.Flush (grind arith)
 same_who-is (who.Reclaim p) (who.Reclaim q) h = ap who.Reclaim (grind arith)

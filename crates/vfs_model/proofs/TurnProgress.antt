@@ -1,11 +1,8 @@
 -- A replay goes on until its end: whoever's turn it is can take a step.
-use Rattle.std.proofs.Common.{◌≡◌, ◌≢◌, ℕ, zero, suc, ◌+◌, ◌-◌, ◌<◌, ◌≤◌, ◌==◌, All, Bool, true, false, not, cond, ◌&&◌, Option, Some, None, List, [], ◌∷◌, ◌++◌, length, map, set, get_or, replicate, refl, sym, ap, ap₂, ◌∙◌, subst, arith, append_assoc, append-nil, get_or-set_same, get_or-set_other, length-set, ne_eqb}
-use Rattle.std.specs.Prelude.{is_some, is_none, slice_get}
-use Rattle.std.specs.List.{flat_map, list_all}
-use Rattle.std.proofs.lemmas.List.Elements.{All-head, All-tail}
+use Rattle.std.proofs.Common.{◌≡◌, ◌≢◌, ℕ, ◌-◌, ◌≤◌, ◌==◌, Bool, true, false, not, cond, ◌&&◌, Option, Some, None, List, [], ◌∷◌, ◌++◌, length, map, set, get_or, refl, sym, ap, ◌∙◌, subst, arith, append_assoc, append-nil, get_or-set_same, get_or-set_other, length-set}
+use Rattle.std.specs.Prelude.{is_some, is_none}
+use Rattle.std.specs.List.{list_all}
 use Rattle.std.proofs.lemmas.Bool.Decides.{nat_tests}
-use Rattle.vfs_base.specs.declared.deck.Act.{Act}
-use Rattle.vfs_base.specs.declared.deck.Act.TheVariants as act
 use Rattle.vfs_base.specs.declared.deck.Deck.{Deck}
 use Rattle.vfs_base.specs.declared.entry.Entry.{Entry}
 use Rattle.vfs_base.specs.declared.entry.Mark.{Mark}
@@ -17,11 +14,11 @@ use Rattle.vfs_base.specs.declared.step.Step.TheVariants as step
 use Rattle.vfs_model.proofs.BlockLemmas.{take-over}
 use Rattle.vfs_model.proofs.DoneSessions.{all-stay, done-stays, idle-stays, parts-done}
 use Rattle.vfs_model.proofs.GrowingRuns.{entry-grows, pending-wanted}
-use Rattle.vfs_model.specs.Deck.{posted_to, session_lines}
-use Rattle.vfs_model.specs.DeckLaws.{IsAct, IsEvent}
+use Rattle.vfs_model.specs.Deck.{session_lines}
+use Rattle.vfs_model.specs.DeckLaws.{IsEvent}
 use Rattle.vfs_model.specs.ScriptRun.{RunState, entry_step, heard_by, is_done, run_of, sessions, take_entry}
-use Rattle.vfs_model.specs.Session.{SessionRun, exit_step, is_pending, session_run, wanted_step}
-use Rattle.vfs_model.specs.Turns.{Agenda, Leaves, Posts, RunOut, Steps, Task, Turn, act_tasks, next_turn, posted_after, posted_run, session_if, task_rest, task_who}
+use Rattle.vfs_model.specs.Session.{exit_step, is_pending, session_run, wanted_step}
+use Rattle.vfs_model.specs.Turns.{Agenda, Leaves, Posts, RunOut, Steps, Task, Turn, next_turn, posted_after, posted_run, session_if, task_rest, task_who}
 
 abbrev pub InRange : ℕ → Type 0
 InRange k = (1 ≤ k) × (k ≤ SESSIONS)
@@ -171,9 +168,19 @@ idle-at : (deck : Deck) (s : RunState) (before : List ℕ) (k : ℕ) (ks : List 
 idle-at deck s before k ks h = not-true _ (first-true (is_idle deck s) k ks (all-split (is_idle deck s) before (k ∷ ks) h).1)
 
 all-in-range : AreInRange sessions
-all-in-range =
-    ((omega arith, omega arith), ((omega arith, omega arith), ((omega arith, omega arith), ((omega arith, omega arith),
-    ((omega arith, omega arith), ((omega arith, omega arith), ((omega arith, omega arith), ((omega arith, omega arith), tt))))))))
+all-in-range = (
+  (omega arith, omega arith),
+  (
+    (omega arith, omega arith),
+    (
+      (omega arith, omega arith),
+      (
+        (omega arith, omega arith),
+        ((omega arith, omega arith), ((omega arith, omega arith), ((omega arith, omega arith), ((omega arith, omega arith), tt)))),
+      ),
+    ),
+  ),
+)
 
 go-leaving : (deck : Deck) (s : RunState) (posted : List (List (List ℕ))) (before rest : List ℕ) → s.is_over ≡ false → sessions ≡ before ++ rest → AreInRange rest →
     AllPosted deck posted → list_all (is_idle deck s) sessions ≡ true → list_all (is_done deck s) before ≡ true → GoesOn deck s posted (leaving rest)
@@ -206,8 +213,15 @@ go-leaving deck s posted before (k ∷ ks) over parts ranges all idle done =
           asked = asked;
           wants = rw rests exit;
           keeps = λ t m f. Leaving (record {
-            over = take-over deck s t _ f; before = before; rest = k ∷ ks; parts = parts; ranges = ranges; tasks = refl; posted = all;
-            idle = idle-all deck s t _ sessions f idle; done = done-all deck s t _ before f done;
+            over = take-over deck s t _ f;
+            before = before;
+            rest = k ∷ ks;
+            parts = parts;
+            ranges = ranges;
+            tasks = refl;
+            posted = all;
+            idle = idle-all deck s t _ sessions f idle;
+            done = done-all deck s t _ before f done;
           });
         }
 
@@ -233,7 +247,13 @@ go-running deck s posted before (k ∷ ks) over parts ranges all idle =
           asked = asked;
           wants = rw pending refl;
           keeps = λ t m f. Running (record {
-            over = take-over deck s t _ f; before = before; rest = k ∷ ks; parts = parts; ranges = ranges; tasks = refl; posted = all;
+            over = take-over deck s t _ f;
+            before = before;
+            rest = k ∷ ks;
+            parts = parts;
+            ranges = ranges;
+            tasks = refl;
+            posted = all;
             idle = idle-all deck s t _ before f idle;
           });
         }
@@ -276,8 +296,8 @@ go-front deck s posted (RunOut k ∷ front) over places fits promise =
 go-front deck s posted (Posts j text ∷ front) over places fits promise =
     let now = set posted (j - 1) (posted_by posted j ++ text ∷ []) in
     let on = go-front deck s now front over (length-set posted (j - 1) (posted_by posted j ++ text ∷ []) ∙ places) fits.1
-        (λ k r. ap (λ lines. lines ++ future k front) (set-posted posted j k text places fits.0 r)
-            ∙ append_assoc (posted_by posted k) (cond (j == k) (text ∷ []) []) (future k front) ∙ promise k r) in
+    (λ k r. ap (λ lines. lines ++ future k front) (set-posted posted j k text places fits.0 r)
+    ∙ append_assoc (posted_by posted k) (cond (j == k) (text ∷ []) []) (future k front) ∙ promise k r) in
     record { turn = on.turn; found = on.found; asked = on.asked; wants = on.wants; keeps = on.keeps }
 go-front deck s posted (Steps (who.Session k) ∷ front) over places fits promise =
     by_wanted (posted_run posted s k).wanted refl (go-front deck s posted front over places fits.1 promise)
@@ -293,12 +313,16 @@ go-front deck s posted (Steps (who.Session k) ∷ front) over places fits promis
     }
 go-front deck s posted (Steps (who.Flush row) ∷ front) over places fits promise = record {
   turn = record { who = who.Flush row; agenda = record { posted = posted; tasks = front ++ running sessions } };
-  found = refl; asked = step.Flush row; wants = refl;
+  found = refl;
+  asked = step.Flush row;
+  wants = refl;
   keeps = λ t m f. Front (record { over = take-over deck s t _ f; places = places; front = front; tasks = refl; fits = fits.1; promise = promise });
 }
 go-front deck s posted (Steps (who.Reclaim row) ∷ front) over places fits promise = record {
   turn = record { who = who.Reclaim row; agenda = record { posted = posted; tasks = front ++ running sessions } };
-  found = refl; asked = step.Reclaim row; wants = refl;
+  found = refl;
+  asked = step.Reclaim row;
+  wants = refl;
   keeps = λ t m f. Front (record { over = take-over deck s t _ f; places = places; front = front; tasks = refl; fits = fits.1; promise = promise });
 }
 go-front deck s posted (Steps who.End ∷ front) over places fits promise = absurd fits.0

@@ -11,9 +11,10 @@ use Rattle.vfs_base.specs.declared.entry.Who.TheVariants as who
 use Rattle.vfs_base.specs.declared.limits.TheConstants.{ROWS, SESSIONS}
 use Rattle.vfs_base.specs.declared.reply.Reply.{Reply}
 use Rattle.vfs_model.specs.Command.{line_talk}
+use Rattle.vfs_model.specs.DeckLaws.{IsScript}
 use Rattle.vfs_model.specs.Schedule.{is_end_last, schedule_entries, schedule_line, schedule_text}
 use Rattle.vfs_model.specs.Session.{SessionRun, block_of, is_pending, session_run, wanted_step}
-use Rattle.vfs_model.specs.ScriptRun.{RunState, first_untaken, has_ended, run_of, state_after, take_entry}
+use Rattle.vfs_model.specs.ScriptRun.{IsWhole, RunState, first_untaken, has_ended, run_of, state_after, take_entry}
 use Rattle.vfs_model.specs.Transcript.{shown, transcript}
 use Rattle.vfs_model.specs.Turns.{FollowsScript}
 use Rattle.vfs_model.specs.declared.script_form.ScriptForm.{ScriptForm}
@@ -128,3 +129,15 @@ ShownBlocksStay = (deck : Deck) (describe : Describe) (front rest : List Entry) 
 abbrev pub PendingStepIsWanted : Type 0
 PendingStepIsWanted = (posted more : List (List ℕ)) (replies : List Reply) → is_pending (session_run posted replies) ≡ true →
     wanted_step (session_run (posted ++ more) replies) ≡ (session_run posted replies).wanted
+
+-- the schedule is whole, or goes on by one entry that nothing stops
+abbrev pub IsWholeOrGoesOn : ScriptForm → Deck → Describe → List Entry → Type 0
+IsWholeOrGoesOn shape deck describe schedule =
+    IsWhole deck describe schedule
+    ⊎ ((asker : Who) × FollowsScript shape deck describe (schedule ++ record { who = asker; mark = mark.Clear } ∷ []))
+
+-- a shell and a replay never get stuck: whoever's turn it is has a step to take, until the schedule is whole
+abbrev pub ScriptGoesOn : Type 0
+ScriptGoesOn = (deck : Deck) (describe : Describe) (schedule : List Entry) → IsScript deck →
+    (FollowsScript form.Shell deck describe schedule → IsWholeOrGoesOn form.Shell deck describe schedule)
+    × (FollowsScript form.Replay deck describe schedule → IsWholeOrGoesOn form.Replay deck describe schedule)

@@ -5,7 +5,7 @@ ghost use Rattle.vfs_model.specs.DeckLaws.{ReadScriptIsInForm};
 ghost use Rattle.vfs_model.specs.DescriptorLaws.{StaysSound};
 ghost use Rattle.vfs_model.specs.ShellLaws.{AddedMappingGoesBack, DupSharesFile, LineTakesReplies, WholeLinesEnd};
 ghost use Rattle.vfs_model.specs.Laws.{RefusedStepChangesNothing, WorkerChangesNothing, CoveringMountIsLongest, RefusedWorldStaysSame, PutNodeStands, TakenNodeIsGone, NormalPathHasNormalNames, PrintedPathNamesItself, MountShowsItsTree, UnmountLeavesOtherMounts, MovedSubtreeStands, RenamedSubtreeStands, EmptyMountChangesNoNode};
-ghost use Rattle.vfs_model.specs.TranscriptLaws.{PrintedScheduleIsRead, ReadScheduleIsPrinted, TranscriptNeedsEachEntry, UndefinedTranscriptHasPlace, FrontHasTranscript, WholeScheduleEndsLast, ScriptSaysTurns, EachBlockShowsItsLine, ShownBlocksStay, PendingStepIsWanted};
+ghost use Rattle.vfs_model.specs.TranscriptLaws.{PrintedScheduleIsRead, ReadScheduleIsPrinted, TranscriptNeedsEachEntry, UndefinedTranscriptHasPlace, FrontHasTranscript, WholeScheduleEndsLast, ScriptSaysTurns, EachBlockShowsItsLine, ShownBlocksStay, PendingStepIsWanted, ScriptGoesOn};
 
 /// A step of the namespace that is refused changes neither the namespace nor a row; Shutdown apart.
 pub fn refused_step_changes_nothing()
@@ -130,6 +130,11 @@ pub fn shown_blocks_stay()
 /// The step that a pending command asks is the one that its session wants, whatever is posted behind it.
 pub fn pending_step_is_wanted()
     ensures { PendingStepIsWanted }
+{}
+
+/// A shell and a replay never get stuck: whoever's turn it is has a step to take, until the schedule is whole.
+pub fn script_goes_on()
+    ensures { ScriptGoesOn }
 {}
 
 /// A script that is read has its numbers in their ranges, a manifest for each rom, and no name of a rom twice.
