@@ -41,6 +41,14 @@ shell_text lines line = transcript form.Shell (shell_deck lines) bare (scheduled
 abbrev pub shells : List (List ℕ) → List ℕ → Bool
 shells lines line = follows_script form.Shell (shell_deck lines) bare (scheduled line)
 
+-- what a replay shows, and whether the schedule is in the order that the script asks for
+abbrev pub replayed : List (List ℕ) → List ℕ → Option (List ℕ) × Bool
+replayed lines line = (replay lines line, replays lines line)
+
+-- the same of a shell
+abbrev pub by_hand : List (List ℕ) → List ℕ → Option (List ℕ) × Bool
+by_hand lines line = (shell_text lines line, shells lines line)
+
 -- what a script shows as a replay on devices
 abbrev pub replay_on : Describe → List (List ℕ) → List ℕ → Option (List ℕ)
 replay_on describe lines line = transcript form.Replay (script lines) describe (scheduled line)
