@@ -9,6 +9,7 @@ pub mod Nodes
 pub mod Passing
 pub mod Points
 pub mod Referring
+pub mod Removing
 pub mod Standing
 pub mod Taking
 pub mod TreeParts
