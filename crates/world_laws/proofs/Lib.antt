@@ -12,5 +12,6 @@ pub mod Referring
 pub mod Removing
 pub mod Standing
 pub mod Taking
+pub mod TreeMoves
 pub mod TreeParts
 pub mod WorldKeeping
