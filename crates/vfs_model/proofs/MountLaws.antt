@@ -39,7 +39,7 @@ pub prefix-is : (front path : Path) → is_prefix front path ≡ true → front 
 prefix-is front path = (pointwise_decides bytes_decides front (take (length front) path)).0
 
 -- of two prefixes of a path the shorter is a prefix of the longer
-prefixes-nest : (a b q : Path) → is_prefix a q ≡ true → is_prefix b q ≡ true → length a ≤ length b → is_prefix a b ≡ true
+pub prefixes-nest : (a b q : Path) → is_prefix a q ≡ true → is_prefix b q ≡ true → length a ≤ length b → is_prefix a b ≡ true
 prefixes-nest a b q h k l =
     (pointwise_decides bytes_decides a (take (length a) b)).1
     (prefix-is a q h ∙ sym (take-of-prefix (length a) (length b) q l) ∙ ap (take (length a)) (sym (prefix-is b q k)))

@@ -1,5 +1,6 @@
 pub mod Beside
 pub mod Binding
+pub mod Clear
 pub mod Covering
 pub mod FileKeeping
 pub mod Freeing
