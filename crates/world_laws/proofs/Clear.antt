@@ -55,7 +55,7 @@ covered-longest n q m x h other = at-place x.place x.within x.is
 is-point-at : (n : Namespace) (place : ℕ) (d : Mount) → place < length (all_mounts n) → is_point n (slice_index_or (all_mounts n) place d).point ≡ true
 is-point-at n place d l = place-any (λ mount. same_path mount.point (slice_index_or (all_mounts n) place d).point) (all_mounts n) place d l (same_path-itself (slice_index_or (all_mounts n) place d).point)
 
-below-prefix : (a b : Path) → is_prefix a b ≡ true → length a < length b → is_below a b ≡ true
+pub below-prefix : (a b : Path) → is_prefix a b ≡ true → length a < length b → is_below a b ≡ true
 below-prefix a b h l = ap (λ x. x && nat_lt (length a) (length b)) h ∙ lt-ltb (length a) (length b) l
 
 module _ (n : Namespace) (p : Path) (f : FoldersStand n) (unpointed : is_point n p ≡ false) (bare : has_nodes n p ≡ false) where

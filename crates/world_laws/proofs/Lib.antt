@@ -1,3 +1,4 @@
+pub mod Agreeing
 pub mod Beside
 pub mod Binding
 pub mod Clear
@@ -11,6 +12,7 @@ pub mod Passing
 pub mod Points
 pub mod Referring
 pub mod Removing
+pub mod Renaming
 pub mod Standing
 pub mod Taking
 pub mod TreeMoves

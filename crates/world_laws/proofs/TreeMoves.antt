@@ -30,7 +30,7 @@ pub record MayMove (old new : Path) (tree : Tree) : Type 0 where
   pub apart : is_prefix old new ≡ false
   pub there : is_some (value_at path_cmp old tree) ≡ true
 
-t-true : (b : Bool) → T b → b ≡ true
+pub t-true : (b : Bool) → T b → b ≡ true
 t-true true h = refl
 t-true false h = absurd h
 
@@ -58,7 +58,7 @@ module _ (old new : Path) (tree : Tree) (may : MayMove old new tree) where
       ]
   ]
 
-  at-new : (rest : Path) → value_at path_cmp (new ++ rest) (moved old new tree) ≡ value_at path_cmp (old ++ rest) tree
+  pub at-new : (rest : Path) → value_at path_cmp (new ++ rest) (moved old new tree) ≡ value_at path_cmp (old ++ rest) tree
   at-new rest = moved-at old new tree rest sorted may.clear
 
   -- where a node that stands in the new tree stood
