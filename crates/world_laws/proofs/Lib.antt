@@ -6,7 +6,9 @@ pub mod Covering
 pub mod FileKeeping
 pub mod Freeing
 pub mod Growing
+pub mod Keeping
 pub mod Lists
+pub mod NameKeeping
 pub mod Nodes
 pub mod Passing
 pub mod Points

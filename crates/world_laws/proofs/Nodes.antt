@@ -58,7 +58,7 @@ at-front n p front rest f e =
     let c = covers-front n p front rest f e in
     ap (λ m. node_in (tree_of n m.number) (rest_of n ((covering_mount n p).point ++ front))) c.0 ∙ ap (node_in (tree_at n p)) c.1
 
-at-rest : (n : Namespace) (p : Path) → node_at n p ≡ node_in (tree_at n p) (rest_of n p)
+pub at-rest : (n : Namespace) (p : Path) → node_at n p ≡ node_in (tree_at n p) (rest_of n p)
 unfolding node_at
 at-rest n p = refl
 
