@@ -4,6 +4,7 @@ pub mod Binding
 pub mod Clear
 pub mod Covering
 pub mod FileKeeping
+pub mod FileKeepingSteps
 pub mod Freeing
 pub mod Growing
 pub mod Keeping

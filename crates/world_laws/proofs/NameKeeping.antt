@@ -40,7 +40,7 @@ stat-kept n k text s =
 list-kept : (n : Namespace) (k : ℕ) (text : List ℕ) → Stands Nothing n → Kept n (list_step n k text)
 list-kept n k text s = bind-kept n (asked_path n k text) _ (λ path e. then-kept n (folder_refusals n path) _ (λ h. same-kept n s))
 
-path-or : Path → Result Path TextFault → Path
+abbrev path-or : Path → Result Path TextFault → Path
 path-or p (Ok q) = q
 path-or p (Err other) = p
 
