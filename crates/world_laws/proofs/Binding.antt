@@ -47,7 +47,7 @@ pub record MayBind (n : Namespace) (row : ℕ) (life : LiveFile) : Type 0 where
 abbrev pub next_generations : Namespace → ℕ → List ℕ
 next_generations n row = slice_set n.generations (row - 1) (generation_at n row + 1)
 
-some-life : (found : Option LiveFile) (P : LiveFile → Type 0) → IsSomeAnd found P → found ≢ None
+pub some-life : (found : Option LiveFile) (P : LiveFile → Type 0) → IsSomeAnd found P → found ≢ None
 some-life None P h e = h
 some-life (Some life) P h e = absurd (cc)
 

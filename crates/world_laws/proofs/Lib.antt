@@ -11,6 +11,7 @@ pub mod Keeping
 pub mod Lists
 pub mod NameKeeping
 pub mod Nodes
+pub mod OpenKeeping
 pub mod Passing
 pub mod Points
 pub mod Referring
