@@ -9,6 +9,7 @@ pub mod Freeing
 pub mod Growing
 pub mod Keeping
 pub mod Lists
+pub mod MoveKeeping
 pub mod NameKeeping
 pub mod Nodes
 pub mod OpenKeeping

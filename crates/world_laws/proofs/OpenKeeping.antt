@@ -7,7 +7,8 @@ use Rattle.std.proofs.lemmas.Slice.Zip.{get_or-zip, length-zip}
 use Rattle.std.proofs.Math.ListN.{get_or-map}
 use Rattle.std.specs.FinMap.Entries.{find as value_at}
 use Rattle.std.specs.List.{list_any, position_or_len}
-use Rattle.std.specs.Prelude.{nat_lt, nat_le, min}
+use Rattle.std.specs.Prelude.{nat_lt, nat_le, min, slice_range}
+use Rattle.vfs_model.specs.declared.namespace.Role.TheVariants as role
 use Rattle.vfs_base.specs.Path.{Path, path_cmp}
 use Rattle.vfs_base.specs.declared.errno.Errno.{Errno}
 use Rattle.vfs_base.specs.declared.errno.Errno.TheVariants as errno
@@ -296,3 +297,45 @@ made-kept n k p may absent s =
     made-files v a row life b l =
         bind-agrees v (with_node n p (node.File (next_file n row) life.kind)) row life (new_origin life.backing) l s.sizes.lives s.sizes.generations b
         (agrees-beside v n (with_node n p (node.File (next_file n row) life.kind)) refl refl a)
+
+taken-references : (m : Namespace) (b : Backing) → (after_taking m b).references ≡ m.references
+taken-references m backing.Memory = refl
+taken-references m (backing.Cell volume cell) = refl
+taken-references m (backing.Device device) = refl
+
+made-references : (n : Namespace) (p : Path) → (make_file n p).next.references ≡ n.references
+unfolding make_file bind_row with_node
+made-references n p = taken-references _ (new_life n p).backing
+
+at-references : (n : Namespace) (references : List (Option Reference)) (k : ℕ) → references ≡ n.references → least_free_number (record n { references = references }) k ≡ least_free_number n k
+at-references n references k e = ap (λ x. least_free_number (record n { references = x }) k) e
+
+-- the session refers to the file that stands at the path
+opened-kept : (n : Namespace) (k : ℕ) (p : Path) (rows : Rows) → 0 < k → rows.next.references ≡ n.references → nat_lt 32 (least_free_number n k) ≡ false → Keeps n rows.next rows.changes →
+    (found : Option NodeKind) → node_at rows.next p ≡ found → Kept n (open_file k p rows found)
+opened-kept n k p rows l same h kept None e = tt
+opened-kept n k p rows l same h kept (Some node.Dir) e = tt
+opened-kept n k p rows l same h kept (Some (node.File id kind)) e =
+    let m = rows.next in
+    let number = least_free_number m k in
+    let alike : number ≡ least_free_number n k = ap (λ x. position_or_len is_none (slice_range x (32 * (k - 1)) (32 * k)) + 1) same in
+    let place = free-place m k l (ap (λ x. nat_lt 32 x) alike ∙ h) in
+    let reference : Reference = record { role = role.Open; file = id; kind = kind; mount = (covering_mount m p).number } in
+    let live = kept.stands.live.linked (number_at m p) (rest_of m p) id kind (node-there m p (node.File id kind) (file-below m p id kind e) e) in
+    record {
+      stands = refer-stands Nothing m (place_of k number) reference place (live, (covering-number m p kept.stands.folders).1) kept.stands;
+      pages = kept.pages;
+      files = λ v a. agrees-beside _ m (with_reference m k number (Some reference)) refl refl (kept.files v a);
+    }
+
+at-path-kept : (n : Namespace) (k : ℕ) (p : Path) (b : Bool) → is_there n p ≡ b → 0 < k → MayOpen n k p → Stands Nothing n →
+    let rows = if b then record { next = n; changes = [] } else make_file n p in Kept n (open_file k p rows (node_at rows.next p))
+at-path-kept n k p true e l may s = opened-kept n k p (record { next = n; changes = [] }) l refl may.number (same-kept n s) (node_at n p) refl
+at-path-kept n k p false e l may s = opened-kept n k p (make_file n p) l (made-references n p) may.number (made-kept n k p may e s) (node_at (make_file n p).next p) refl
+
+pub open-kept : (n : Namespace) (k : ℕ) (text : List ℕ) (flags : OpenFlags) → 0 < k → Stands Nothing n → Kept n (open_step n k text flags)
+unfolding open_at
+open-kept n k text flags l s =
+    bind-kept n (asked_path n k text) _ (λ path e.
+    then-kept n (open_refusals n k path flags) _ (λ h.
+    at-path-kept n k path (is_there n path) refl l (may-open n k path flags h) s))
