@@ -12,7 +12,7 @@ use Rattle.vfs_model.specs.Namespace.{Tree, all_mounts}
 use Rattle.vfs_model.specs.declared.namespace.Mount.{Mount}
 use Rattle.vfs_model.specs.declared.namespace.Namespace.{Namespace}
 
-nearest-append : (path : Path) (found : Mount) (mounts : List Mount) (mount : Mount) → nearest path found (mounts ++ mount ∷ []) ≡ nearer path (nearest path found mounts) mount
+pub nearest-append : (path : Path) (found : Mount) (mounts : List Mount) (mount : Mount) → nearest path found (mounts ++ mount ∷ []) ≡ nearer path (nearest path found mounts) mount
 nearest-append path found [] mount = refl
 nearest-append path found (first ∷ mounts) mount = nearest-append path (nearer path found first) mounts mount
 
@@ -55,7 +55,7 @@ nearer-new path found mount h k =
     let t : (is_prefix mount.point path && nat_lt (length found.point) (length mount.point)) ≡ true = grind arith in
     ap (λ b. if b then mount else found) t
 
-nearer-old : (path : Path) (found mount : Mount) → is_prefix mount.point path ≡ false → nearer path found mount ≡ found
+pub nearer-old : (path : Path) (found mount : Mount) → is_prefix mount.point path ≡ false → nearer path found mount ≡ found
 nearer-old path found mount h =
     let t : (is_prefix mount.point path && nat_lt (length found.point) (length mount.point)) ≡ false = grind arith in
     ap (λ b. if b then mount else found) t

@@ -1,3 +1,4 @@
+pub mod Adding
 pub mod Agreeing
 pub mod Beside
 pub mod Binding
