@@ -75,7 +75,7 @@ numbered n m f x =
     (λ other l h. f.numbers_differ other x.place m l x.within (h ∙ sym (ap (λ y. y.number) x.is)))
 
 -- a free row, by its place in the list
-free-at : (n : Namespace) → length n.lives ≡ 1024 → length n.generations ≡ 1024 → position_or_len (λ free. free) (free_rows n) < 1024 →
+pub free-at : (n : Namespace) → length n.lives ≡ 1024 → length n.generations ≡ 1024 → position_or_len (λ free. free) (free_rows n) < 1024 →
     slice_index_or n.lives (position_or_len (λ free. free) (free_rows n)) None ≡ None
 free-at n lives generations l =
     let at = position_or_len (λ free. free) (free_rows n) in
@@ -138,12 +138,12 @@ taken-number m backing.Memory p = refl
 taken-number m (backing.Cell volume cell) p = refl
 taken-number m (backing.Device device) p = refl
 
-taken-trees : (m : Namespace) (b : Backing) → (after_taking m b).trees ≡ m.trees
+pub taken-trees : (m : Namespace) (b : Backing) → (after_taking m b).trees ≡ m.trees
 taken-trees m backing.Memory = refl
 taken-trees m (backing.Cell volume cell) = refl
 taken-trees m (backing.Device device) = refl
 
-taken-lives : (m : Namespace) (b : Backing) → ((after_taking m b).lives ≡ m.lives) × ((after_taking m b).generations ≡ m.generations)
+pub taken-lives : (m : Namespace) (b : Backing) → ((after_taking m b).lives ≡ m.lives) × ((after_taking m b).generations ≡ m.generations)
 taken-lives m backing.Memory = (refl, refl)
 taken-lives m (backing.Cell volume cell) = (refl, refl)
 taken-lives m (backing.Device device) = (refl, refl)
@@ -196,7 +196,7 @@ fresh-kind n m fs.Rom e h = absurd (cc)
 fresh-kind n m fs.Cell e h = refl
 fresh-kind n m fs.Dev e h = absurd (cc)
 
-kind-itself : (k : Kind) → same_kind k k ≡ true
+pub kind-itself : (k : Kind) → same_kind k k ≡ true
 kind-itself kind.Tmp = refl
 kind-itself kind.Rom = refl
 kind-itself kind.Cell = refl
