@@ -52,7 +52,7 @@ some-life None P h e = h
 some-life (Some life) P h e = absurd (cc)
 
 -- files of other rows live on
-alive-bound : (n : Namespace) (row : ℕ) (found : Option LiveFile) (id : FileId) (kind : Kind) (number : ℕ) → life_at n row ≡ None →
+pub alive-bound : (n : Namespace) (row : ℕ) (found : Option LiveFile) (id : FileId) (kind : Kind) (number : ℕ) → life_at n row ≡ None →
     IsLive n id kind number → IsLive (with_life n row found (next_generations n row)) id kind number
 alive-bound n row found id kind number free live =
     let other : id.row - 1 ≢ row - 1 = λ e. some-life (life_at n id.row) _ live.life (ap (λ k. slice_index_or n.lives k None) e ∙ free) in

@@ -33,7 +33,7 @@ use Rattle.vfs_model.specs.declared.namespace.Origin.{Origin}
 use Rattle.vfs_model.specs.declared.namespace.Origin.TheVariants as origin
 use Rattle.world_laws.proofs.Agreeing.{Begins}
 use Rattle.world_laws.proofs.Beside.{folders-beside}
-use Rattle.world_laws.proofs.Binding.{Rest, apart-cell, but-taken, cells-bound, devices-same, devices-taken, lives-set, lives-taken, live-bound, next_generations, out-other, own-cell, rest-taken, some-life, this-or-other}
+use Rattle.world_laws.proofs.Binding.{Rest, alive-bound, apart-cell, but-taken, cells-bound, devices-same, devices-taken, lives-set, lives-taken, live-bound, next_generations, out-other, own-cell, rest-taken, some-life, this-or-other}
 use Rattle.world_laws.proofs.FreeRows.{free_count, one-less, some-free}
 use Rattle.world_laws.proofs.Lists.{number-itself, other-number, same-or-other, same-some, set-here, set-there}
 use Rattle.world_laws.proofs.OpenKeeping.{FreeRow, kind-itself, taken-lives, taken-trees}
@@ -252,3 +252,252 @@ module _ (mount : Mount) where
     where
       not-file : (id : FileId) (kind : Kind) → node.Dir ≢ node.File id kind
       not-file id kind e = absurd (cc)
+
+  -- the life of a file that is bound now
+  begins-fit : (m : Namespace) (p : Path) (begins : Origin) → FitsOrigin m p begins → Begins (life_of begins) begins
+  begins-fit m p origin.Empty f = absurd f
+  begins-fit m p (origin.Rom place path) f = (ap kind_of f, refl)
+  begins-fit m p (origin.Cell volume cell) f = (ap kind_of f.0, refl)
+  begins-fit m p (origin.Device device) f = (ap kind_of f.0, refl)
+
+  kind-fits : (m : Namespace) (p : Path) (begins : Origin) → FitsOrigin m p begins → fits_kind (Some (life_of begins)) ≡ true
+  kind-fits m p origin.Empty f = absurd f
+  kind-fits m p (origin.Rom place path) f = ap (λ t. fits_kind (Some (record { kind = kind_of t; mount = mount.number; backing = backing.Memory }))) f
+  kind-fits m p (origin.Cell volume cell) f = ap (λ t. fits_kind (Some (record { kind = kind_of t; mount = mount.number; backing = backing.Cell volume cell }))) f.0
+  kind-fits m p (origin.Device device) f = ap (λ t. fits_kind (Some (record { kind = kind_of t; mount = mount.number; backing = backing.Device device }))) f.0
+
+  mount-fits : (m : Namespace) (p : Path) (begins : Origin) → FitsOrigin m p begins → fits_mount m (life_of begins) mount ≡ true
+  mount-fits m p origin.Empty f = absurd f
+  mount-fits m p (origin.Rom place path) f = and-both (same_kind (kind_of mount.fs) (kind_of mount.fs)) true (kind-itself (kind_of mount.fs)) refl
+  mount-fits m p (origin.Device device) f = and-both (same_kind (kind_of mount.fs) (kind_of mount.fs)) true (kind-itself (kind_of mount.fs)) refl
+  mount-fits m p (origin.Cell volume cell) f =
+      and-both (same_kind (kind_of mount.fs) (kind_of mount.fs)) (volume == volume_named m mount.source) (kind-itself (kind_of mount.fs))
+      (ap (λ x. x == volume_named m mount.source) f.1 ∙ number-itself (volume_named m mount.source))
+
+  -- other entries fit after a row was bound
+  volume-named : (m : Namespace) (b : Backing) (name : List ℕ) → volume_named (after_taking m b) name ≡ volume_named m name
+  volume-named m backing.Memory name = refl
+  volume-named m (backing.Cell volume cell) name = cell-named false m volume cell name
+  volume-named m (backing.Device device) name = refl
+
+  device-name : (m : Namespace) (device other : ℕ) → (slice_index_or (with_device true m device).devices other no_device).name ≡ (slice_index_or m.devices other no_device).name
+  device-name m device other =
+      set-at (λ d. d.name ≡ (slice_index_or m.devices other no_device).name) m.devices device other (record (slice_index_or m.devices device no_device) { is_out = true }) no_device
+      (λ e. ap (λ k. (slice_index_or m.devices k no_device).name) (sym e)) refl
+
+  still-fits : (m : Namespace) (p q : Path) (begins other : Origin) → p ≢ q → FitsOrigin m p begins → FitsOrigin m q other → FitsOrigin (after_taking m (origin_backing begins)) q other
+  still-fits m p q begins origin.Empty apart f g = g
+  still-fits m p q begins (origin.Rom place path) apart f g = g
+  still-fits m p q begins (origin.Cell volume cell) apart f g = (g.0, g.1 ∙ sym (volume-named m (origin_backing begins) mount.source))
+  still-fits m p q origin.Empty (origin.Device device) apart f g = g
+  still-fits m p q (origin.Rom place path) (origin.Device device) apart f g = g
+  still-fits m p q (origin.Cell volume cell) (origin.Device device) apart f g = g
+  still-fits m p q (origin.Device one) (origin.Device device) apart f g =
+      let other : device ≢ one = λ e. apart (f.3 ∙ ap (λ k. (slice_index_or m.devices k no_device).name ∷ []) (sym e) ∙ sym g.3) in
+      (g.0, subst (λ x. device < x) (sym (length-set m.devices one _)) g.1, out-other true m one device other ∙ g.2, g.3 ∙ ap (λ name. name ∷ []) (sym (device-name m one device)))
+
+  all-fit : (m : Namespace) (p : Path) (begins : Origin) (left : Content) → FitsOrigin m p begins → T (below_all path_cmp p left) → AllFit m left → AllFit (after_taking m (origin_backing begins)) left
+  all-fit m p begins [] f below fit = tt
+  all-fit m p begins (entry ∷ left) f below fit =
+      (one entry.1 fit.0, all-fit m p begins left f (t-second (is_lt (path_cmp p entry.0)) _ below) fit.1)
+    where
+      one : (o : Option Origin) → Fits m entry.0 o → Fits (after_taking m (origin_backing begins)) entry.0 o
+      one None g = tt
+      one (Some other) g = still-fits m p entry.0 begins other (less-apart p entry.0 (t-first _ (below_all path_cmp p left) below)) f g
+
+  -- what a row that is bound leaves of the mounts, the folders and the trees
+  taken-same : (m : Namespace) (b : Backing) → ((after_taking m b).root ≡ m.root) × ((after_taking m b).mounts ≡ m.mounts) × ((after_taking m b).folders ≡ m.folders) × ((after_taking m b).trees ≡ m.trees)
+  taken-same m backing.Memory = (refl, refl, refl, refl)
+  taken-same m (backing.Cell volume cell) = (refl, refl, refl, refl)
+  taken-same m (backing.Device device) = (refl, refl, refl, refl)
+
+  taken-found : (m : Namespace) (b : Backing) (number : ℕ) → mount_numbered (after_taking m b) number ≡ mount_numbered m number
+  taken-found m backing.Memory number = refl
+  taken-found m (backing.Cell volume cell) number = refl
+  taken-found m (backing.Device device) number = refl
+
+  -- a row that is bound, in the words of the tree that names it then
+  used-more : (m : Namespace) (tree : Tree) (p : Path) (row other : ℕ) (life : LiveFile) (generations : List ℕ) (id : FileId) (kind : Kind) → 0 < row → 0 < other → id.row ≡ row → value_at path_cmp p tree ≡ None →
+      ((at : ℕ) → 0 < at → is_some (life_at m at) ≡ true → IsUsed (InTree tree) m at) → (other - 1 ≡ row - 1) ⊎ (other - 1 ≢ row - 1) →
+      is_some (slice_index_or (slice_set m.lives (row - 1) (Some life)) (other - 1) None) ≡ true →
+      IsUsed (InTree (put path_cmp p (node.File id kind) tree)) (with_life m row (Some life) generations) other
+  used-more m tree p row other life generations id kind l k same none used (inl e) h =
+      inr (inr (record { path = p; id = id; kind = kind; there = at-put-here p (node.File id kind) tree; is = same ∙ omega (arith, e, l, k) }))
+  used-more m tree p row other life generations id kind l k same none used (inr e) h =
+      renamed (used other k (ap is_some (sym (set-there m.lives (row - 1) (other - 1) (Some life) None e)) ∙ h))
+    where
+      renamed : IsUsed (InTree tree) m other → IsUsed (InTree (put path_cmp p (node.File id kind) tree)) (with_life m row (Some life) generations) other
+      renamed (inl linked) = inl linked
+      renamed (inr (inl held)) = inr (inl held)
+      renamed (inr (inr at)) = inr (inr (in-tree tree p (node.File id kind) other none at))
+
+  -- how many files a cell has, and how many are to come
+  cells-filled : (m : Namespace) (row : ℕ) (begins : Origin) (p : Path) (left : Content) (generations : List ℕ) → row - 1 < length m.lives → life_at m row ≡ None →
+      ((volume : ℕ) → length (volume_at m volume).spare ≡ length (volume_at m volume).pages) →
+      ((volume cell : ℕ) → volume < length m.volumes → cell < length (volume_at m volume).pages →
+        cell_files m volume cell + pending ((p, Some begins) ∷ left) volume cell + one_if (slice_index_or (volume_at m volume).spare cell false) ≡ 1) →
+      (b : Backing) → origin_backing begins ≡ b → (volume cell : ℕ) →
+      volume < length (after_taking (with_life m row (Some (life_of begins)) generations) b).volumes → cell < length (volume_at (after_taking (with_life m row (Some (life_of begins)) generations) b) volume).pages →
+      cell_files (after_taking (with_life m row (Some (life_of begins)) generations) b) volume cell + pending left volume cell
+      + one_if (slice_index_or (volume_at (after_taking (with_life m row (Some (life_of begins)) generations) b) volume).spare cell false) ≡ 1
+  cells-filled m row begins p left generations l free spares cells backing.Memory e volume cell v c =
+      let bound = cells-bound m row (life_of begins) generations volume cell l free in
+      let none : one_if (lies_on_cell volume cell (origin_backing begins)) ≡ 0 = ap (λ x. one_if (lies_on_cell volume cell x)) e in
+      let one : pending ((p, Some begins) ∷ left) volume cell ≡ one_if (lies_on_cell volume cell (origin_backing begins)) + pending left volume cell =
+      sum_by-cons (λ entry. one_if (begins_on volume cell entry.1)) (p, Some begins) left in
+      let before = cells volume cell v c in
+      omega (arith, bound, none, one, before)
+  cells-filled m row begins p left generations l free spares cells (backing.Device device) e volume cell v c =
+      let bound = cells-bound m row (life_of begins) generations volume cell l free in
+      let none : one_if (lies_on_cell volume cell (origin_backing begins)) ≡ 0 = ap (λ x. one_if (lies_on_cell volume cell x)) e in
+      let one : pending ((p, Some begins) ∷ left) volume cell ≡ one_if (lies_on_cell volume cell (origin_backing begins)) + pending left volume cell =
+      sum_by-cons (λ entry. one_if (begins_on volume cell entry.1)) (p, Some begins) left in
+      let before = cells volume cell v c in
+      omega (arith, bound, none, one, before)
+  cells-filled m row begins p left generations l free spares cells (backing.Cell w d) e volume cell v c =
+      let t = with_life m row (Some (life_of begins)) generations in
+      let bound = cells-bound m row (life_of begins) generations volume cell l free in
+      let same = cell-files false t w d volume cell in
+      let within : volume < length m.volumes = subst (λ x. volume < x) (length-set m.volumes w _) v in
+      let in_pages : cell < length (volume_at m volume).pages = subst (λ xs. cell < length xs) (cell-pages false t w d volume) c in
+      let one : pending ((p, Some begins) ∷ left) volume cell ≡ one_if (lies_on_cell volume cell (origin_backing begins)) + pending left volume cell =
+      sum_by-cons (λ entry. one_if (begins_on volume cell entry.1)) (p, Some begins) left in
+      let before = cells volume cell within in_pages in
+      elim (this-or-other volume cell w d) [
+        | inl h ↦
+          let counts : one_if (lies_on_cell volume cell (origin_backing begins)) ≡ 1 =
+          ap (λ x. one_if (lies_on_cell volume cell x)) (e ∙ ap (λ x. backing.Cell x d) (sym h.0) ∙ ap (λ x. backing.Cell volume x) (sym h.1)) ∙ ap one_if (own-cell volume cell) in
+          let spare : cell < length (volume_at m volume).spare = subst (λ x. cell < x) (sym (spares volume)) in_pages in
+          let is : one_if (slice_index_or (volume_at (with_cell false t w d) volume).spare cell false) ≡ 0 =
+          ap (λ x. one_if (slice_index_or (volume_at (with_cell false t w x) volume).spare cell false)) (sym h.1)
+          ∙ ap (λ x. one_if (slice_index_or (volume_at (with_cell false t x cell) volume).spare cell false)) (sym h.0) ∙ ap one_if (spare-here false t volume cell within spare) in
+          omega (arith, bound, same, one, before, counts, is)
+        | inr h ↦
+          let none : one_if (lies_on_cell volume cell (origin_backing begins)) ≡ 0 = ap (λ x. one_if (lies_on_cell volume cell x)) e ∙ ap one_if (apart-cell volume cell w d h) in
+          let is : one_if (slice_index_or (volume_at (with_cell false t w d) volume).spare cell false) ≡ one_if (slice_index_or (volume_at m volume).spare cell false) =
+          ap one_if (spare-other false t w d volume cell h) in
+          omega (arith, bound, same, one, before, none, is)
+      ]
+
+  devices-filled : (m : Namespace) (row : ℕ) (begins : Origin) (p : Path) (generations : List ℕ) → row - 1 < length m.lives → life_at m row ≡ None → FitsOrigin m p begins → DevicesPlaced m →
+      DevicesPlaced (after_taking (with_life m row (Some (life_of begins)) generations) (origin_backing begins))
+  devices-filled m row origin.Empty p generations l free f devices = absurd f
+  devices-filled m row (origin.Rom place path) p generations l free f devices = devices-taken m row (life_of (origin.Rom place path)) generations l free tt devices backing.Memory refl
+  devices-filled m row (origin.Cell volume cell) p generations l free f devices = λ device d. devices-same m row (life_of (origin.Cell volume cell)) device l free refl devices d
+  devices-filled m row (origin.Device device) p generations l free f devices = devices-taken m row (life_of (origin.Device device)) generations l free (f.1, f.2) devices (backing.Device device) refl
+
+  no-live : (m : Namespace) (row : ℕ) (id : FileId) (kind : Kind) (number : ℕ) → life_at m row ≡ None → IsLive m id kind number → id.row ≢ row
+  no-live m row id kind number free live e = some-life (life_at m id.row) _ live.life (ap (life_at m) e ∙ free)
+
+  linked-before : (m : Namespace) (row : ℕ) (life : LiveFile) (generations : List ℕ) (b : Backing) (at : ℕ) → Linked (after_taking (with_life m row (Some life) generations) b) at → Linked m at
+  linked-before m row life generations b at linked =
+      subst (λ trees. LinkedIn trees at) (taken-trees (with_life m row (Some life) generations) b) linked
+
+  alive-more : (t : Namespace) (b : Backing) (id : FileId) (kind : Kind) (number : ℕ) → IsLive t id kind number → IsLive (after_taking t b) id kind number
+  alive-more t backing.Memory id kind number live = live
+  alive-more t (backing.Cell volume cell) id kind number live = record { row = live.row; generation = live.generation; life = live.life }
+  alive-more t (backing.Device device) id kind number live = record { row = live.row; generation = live.generation; life = live.life }
+
+  file-id : (id other : FileId) (kind like : Kind) → node.File id kind ≡ node.File other like → id ≡ other
+  file-id id other kind like e = ap of e
+    where
+      of : NodeKind → FileId
+      of node.Dir = id
+      of (node.File one two) = one
+
+  file-kind : (id other : FileId) (kind like : Kind) → node.File id kind ≡ node.File other like → kind ≡ like
+  file-kind id other kind like e = ap of e
+    where
+      of : NodeKind → Kind
+      of node.Dir = kind
+      of (node.File one two) = two
+
+  alive-bound-fill : (m : Namespace) (row : ℕ) (found : Option LiveFile) (id : FileId) (kind : Kind) → life_at m row ≡ None →
+      IsLive m id kind mount.number → IsLive (with_life m row found (next_generations m row)) id kind mount.number
+  alive-bound-fill m row found id kind free live = alive-bound m row found id kind mount.number free live
+
+  -- the file that is bound lives
+  new-live : (m : Namespace) (row : ℕ) (begins : Origin) (p : Path) {base : Namespace} {tree : Tree} {behind left : Content} → Fill base m tree behind ((p, Some begins) ∷ left) → FreeRow m row →
+      (other : FileId) (kind : Kind) → node.File (next_file m row) (kind_of mount.fs) ≡ node.File other kind →
+      IsLive (after_taking (with_life m row (Some (life_of begins)) (next_generations m row)) (origin_backing begins)) other kind mount.number
+  new-live m row begins p f free other kind e =
+      let t = with_life m row (Some (life_of begins)) (next_generations m row) in
+      let live : IsLive t (next_file m row) (kind_of mount.fs) mount.number = record {
+        row = free.counted;
+        generation = set-here m.generations (row - 1) (generation_at m row + 1) 0 (subst (λ x. row - 1 < x) (sym f.rest.sizes.generations) free.small);
+        life = subst (λ found. IsSomeAnd found (λ life. (life.kind ≡ kind_of mount.fs) × (life.mount ≡ mount.number)))
+            (sym (set-here m.lives (row - 1) (Some (life_of begins)) None (subst (λ x. row - 1 < x) (sym f.rest.sizes.lives) free.small))) (refl, refl);
+      } in
+      alive-more t (origin_backing begins) other kind mount.number
+      (subst (λ x. IsLive t other x mount.number) (file-kind (next_file m row) other (kind_of mount.fs) kind e)
+      (subst (λ x. IsLive t x (kind_of mount.fs) mount.number) (file-id (next_file m row) other (kind_of mount.fs) kind e) live))
+
+  -- a file of the content
+  pub fill-file : (base m : Namespace) (tree : Tree) (behind left : Content) (p : Path) (begins : Origin) → Fill base m tree behind ((p, Some begins) ∷ left) →
+      Fill base (bind_row m (least_free_row m) (life_of begins)) (put path_cmp p (node.File (next_file m (least_free_row m)) (kind_of mount.fs)) tree) (behind ++ (p, Some begins) ∷ []) left
+  unfolding bind_row
+  fill-file base m tree behind left p begins f =
+      let none = absent-next base m tree behind left p (Some begins) f in
+      let row = least_free_row m in
+      let id = next_file m row in
+      let life = life_of begins in
+      let b = origin_backing begins in
+      let generations = next_generations m row in
+      let t = with_life m row (Some life) generations in
+      let counted : file_count ((p, Some begins) ∷ left) ≡ 1 + file_count left = sum_by-cons (λ entry. one_if (is_some entry.1)) (p, Some begins) left in
+      let room : 0 < free_count m = let before = f.room in omega (arith, counted, before) in
+      let free = some-free m f.rest.sizes.lives f.rest.sizes.generations room in
+      let within : row - 1 < length m.lives = subst (λ x. row - 1 < x) (sym f.rest.sizes.lives) free.small in
+      let same = taken-same t b in
+      record {
+        rest = rest-taken (InTree (put path_cmp p (node.File id (kind_of mount.fs)) tree)) t b (record {
+          live = live-bound m row (Some life) free.free f.rest.live;
+          used = λ other l h. used-more m tree p row other life generations id (kind_of mount.fs) free.counted l refl none f.rest.used (same-or-other (other - 1) (row - 1)) h;
+          alone = f.rest.alone;
+          folders = folders-beside m (slice_set m.lives (row - 1) (Some life)) generations m.references m.volumes m.devices f.rest.folders;
+          trees = f.rest.trees;
+          roms = f.rest.roms;
+          sizes = record {
+            lives = length-set m.lives (row - 1) (Some life) ∙ f.rest.sizes.lives;
+            generations = length-set m.generations (row - 1) _ ∙ f.rest.sizes.generations;
+            trees = f.rest.sizes.trees;
+            folders = f.rest.sizes.folders;
+            mounts = f.rest.sizes.mounts;
+            references = f.rest.sizes.references;
+          };
+        });
+        boxes = but-taken t b (but-life m row (Some life) generations (kind-fits m p begins f.fit.0) f.boxes);
+        devices = devices-filled m row begins p generations within free.free f.fit.0 f.devices;
+        cells = cells-filled m row begins p left generations within free.free f.boxes.spares f.cells b refl;
+        lives = lives-taken t b (lives-set m row (Some life) generations
+            (λ other e. subst (λ x. IsSomeAnd (mount_numbered m x.mount) (λ y. fits_mount m x y ≡ true)) (same-some life other e)
+              (subst (λ found. IsSomeAnd found (λ y. fits_mount m life y ≡ true)) (sym f.found) (mount-fits m p begins f.fit.0))) f.lives);
+        found = taken-found t b mount.number ∙ f.found;
+        files = λ q other kind h. elim (put-file tree p q (node.File id (kind_of mount.fs)) other kind h) [
+          | inl x ↦ (new-live m row begins p f free other kind x.1,
+              λ linked u. let before = linked-before m row life generations b other.row linked in
+                no-live m row before.id before.kind before.number free.free (f.rest.live.linked before.number before.path before.id before.kind before.there) (before.is ∙ ap (λ y. y.row) (sym (file-id id other (kind_of mount.fs) kind x.1))))
+          | inr x ↦ (alive-more t b other kind mount.number (alive-bound-fill m row (Some life) other kind free.free (f.files q other kind x).0),
+              λ linked u. (f.files q other kind x).1 (linked-before m row life generations b other.row linked) tt)
+        ];
+        alone = λ a c one two kind like h k r. elim (put-file tree p a (node.File id (kind_of mount.fs)) one kind h) [
+          | inl x ↦ elim (put-file tree p c (node.File id (kind_of mount.fs)) two like k) [
+            | inl y ↦ x.0 ∙ sym y.0
+            | inr y ↦ absurd (no-live m row two like mount.number free.free (f.files c two like y).0 (sym r ∙ ap (λ z. z.row) (sym (file-id id one (kind_of mount.fs) kind x.1))))
+          ]
+          | inr x ↦ elim (put-file tree p c (node.File id (kind_of mount.fs)) two like k) [
+            | inl y ↦ absurd (no-live m row one kind mount.number free.free (f.files a one kind x).0 (r ∙ ap (λ z. z.row) (sym (file-id id two (kind_of mount.fs) like y.1))))
+            | inr y ↦ f.alone a c one two kind like x y r
+          ]
+        ];
+        shape = λ q. shape-more tree behind p q (node.File id (kind_of mount.fs)) (Some begins) (not-behind p (Some begins) behind left f.order) refl (f.shape q);
+        sorted = is_sorted-put path_cmp path_cmp_total p (node.File id (kind_of mount.fs)) tree f.sorted;
+        small = put-small tree behind p (node.File id (kind_of mount.fs)) (Some begins) f.sorted f.small;
+        order = subst (λ all. T (is_sorted path_cmp all)) (sym (append_assoc behind ((p, Some begins) ∷ []) left)) f.order;
+        room = let less = one-less m life f.rest.sizes.lives f.rest.sizes.generations room in let before = f.room in omega (arith, counted, less, before);
+        fit = all-fit t p begins left (f.fit.0) (t-first _ (is_sorted path_cmp left) (later-sorted behind ((p, Some begins) ∷ left) f.order)) f.fit.1;
+        root = same.0 ∙ f.root;
+        mounts = same.1 ∙ f.mounts;
+        folders = same.2 ∙ f.folders;
+        trees = same.3 ∙ f.trees;
+      }
