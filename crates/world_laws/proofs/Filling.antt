@@ -254,7 +254,7 @@ module _ (mount : Mount) where
       not-file id kind e = absurd (cc)
 
   -- the life of a file that is bound now
-  begins-fit : (m : Namespace) (p : Path) (begins : Origin) → FitsOrigin m p begins → Begins (life_of begins) begins
+  pub begins-fit : (m : Namespace) (p : Path) (begins : Origin) → FitsOrigin m p begins → Begins (life_of begins) begins
   begins-fit m p origin.Empty f = absurd f
   begins-fit m p (origin.Rom place path) f = (ap kind_of f, refl)
   begins-fit m p (origin.Cell volume cell) f = (ap kind_of f.0, refl)

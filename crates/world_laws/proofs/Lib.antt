@@ -6,6 +6,7 @@ pub mod Clear
 pub mod Covering
 pub mod FileKeeping
 pub mod FileKeepingSteps
+pub mod FillAll
 pub mod Filling
 pub mod FreeRows
 pub mod Freeing
