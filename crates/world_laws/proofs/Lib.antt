@@ -3,6 +3,7 @@ pub mod Agreeing
 pub mod Beside
 pub mod Binding
 pub mod Clear
+pub mod Contents
 pub mod Covering
 pub mod FileKeeping
 pub mod FileKeepingSteps
