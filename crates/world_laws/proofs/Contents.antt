@@ -89,7 +89,7 @@ kept_shape None = 0
 kept_shape (Some kept.Dir) = 1
 kept_shape (Some (kept.File cell)) = 2
 
-rom-tree : (n : Namespace) (place : ℕ) → IsClosedTree is_rom_dir (slice_index_or n.roms place no_rom).nodes →
+pub rom-tree : (n : Namespace) (place : ℕ) → IsClosedTree is_rom_dir (slice_index_or n.roms place no_rom).nodes →
     IsTree (map (λ entry. (entry.0, rom_origin place entry.0 entry.1)) (slice_index_or n.roms place no_rom).nodes)
 unfolding rom_shape
 rom-tree n place closed = valued-tree (rom_origin place) rom_shape same refl is_rom_dir dir some (slice_index_or n.roms place no_rom).nodes closed
@@ -105,7 +105,7 @@ rom-tree n place closed = valued-tree (rom_origin place) rom_shape same refl is_
     some None h = absurd (h refl)
     some (Some x) h = refl
 
-kept-tree : (n : Namespace) (volume : ℕ) → IsClosedTree is_kept_dir (volume_at n volume).kept →
+pub kept-tree : (n : Namespace) (volume : ℕ) → IsClosedTree is_kept_dir (volume_at n volume).kept →
     IsTree (map (λ entry. (entry.0, kept_origin volume entry.1)) (volume_at n volume).kept)
 unfolding kept_shape
 kept-tree n volume closed = valued-tree (λ p x. kept_origin volume x) kept_shape same refl is_kept_dir dir some (volume_at n volume).kept closed

@@ -39,7 +39,7 @@ length-mapped : {A : Type 0} (f : A → Bool) (xs : List A) → length (map f xs
 length-mapped f [] = refl
 length-mapped f (x ∷ xs) = ap suc (length-mapped f xs)
 
-rows-length : (n : Namespace) → length n.lives ≡ 1024 → length n.generations ≡ 1024 → length (free_rows n) ≡ 1024
+pub rows-length : (n : Namespace) → length n.lives ≡ 1024 → length n.generations ≡ 1024 → length (free_rows n) ≡ 1024
 rows-length n lives generations =
     length-mapped (λ row. is_free_row row.0 row.1) (zip n.lives n.generations) ∙ length-zip n.lives n.generations ∙ both lives generations
   where

@@ -40,7 +40,7 @@ pub record AnyPlace {X : Type 0} (p : X → Bool) (xs : List X) (d : X) : Type 0
   pub within : place < length xs
   pub holds : p (slice_index_or xs place d) ≡ true
 
-any-later : {X : Type 0} (p : X → Bool) (x : X) (xs : List X) (d : X) → AnyPlace p xs d → AnyPlace p (x ∷ xs) d
+pub any-later : {X : Type 0} (p : X → Bool) (x : X) (xs : List X) (d : X) → AnyPlace p xs d → AnyPlace p (x ∷ xs) d
 any-later p x xs d found = record { place = suc found.place; within = let l = found.within in omega (arith, l); holds = found.holds }
 
 any-cons : {X : Type 0} (p : X → Bool) (x : X) (xs : List X) (d : X) (b : Bool) → p x ≡ b → (b || list_any p xs) ≡ true →
@@ -129,7 +129,7 @@ below-none p (e ∷ tree) h =
     ap (λ b. cond b (Some e.1) (value_at path_cmp p tree)) (less-is (path_cmp p e.0) (t-first _ (below_all path_cmp p tree) h))
     ∙ below-none p tree (t-second (is_lt (path_cmp p e.0)) _ h)
 
-equal-is : (o : Ordering) → is_eq o ≡ true → o ≡ Equal
+pub equal-is : (o : Ordering) → is_eq o ≡ true → o ≡ Equal
 equal-is Less h = absurd (cc)
 equal-is Equal h = refl
 equal-is Greater h = absurd (cc)

@@ -80,7 +80,7 @@ bare-unless-folder tree rest closed h file = elim (true-or-false (list_any (λ e
         behind at.path (drop (length rest) at.path) at.node at.there (prefix-splits rest at.path prefix) longer
 
 -- a path of which a folder is asked is the path or below it
-within-or-not : (n : Namespace) (p : Path) (k : ℕ) → p ≢ [] → has_folder_within n p ≡ false → is_prefix p (folder_of n k) ≡ false
+pub within-or-not : (n : Namespace) (p : Path) (k : ℕ) → p ≢ [] → has_folder_within n p ≡ false → is_prefix p (folder_of n k) ≡ false
 within-or-not n p k h free = elim (below-or-past (k - 1) (length n.folders)) [
   | inl l ↦ no-place (is_prefix p) n.folders (k - 1) [] free l
   | inr l ↦ ap (is_prefix p) (get_or_past n.folders (k - 1) [] l) ∙ long p h
@@ -144,7 +144,7 @@ second-of true b e h = h
 second-of false b e h = absurd (cc)
 
 -- a folder of which nothing is mounted below has no point at or below it
-plain-folder : (n : Namespace) (p : Path) → is_point n p ≡ false → has_mount_below n p ≡ false → HasNoPoint n p
+pub plain-folder : (n : Namespace) (p : Path) → is_point n p ≡ false → has_mount_below n p ≡ false → HasNoPoint n p
 unfolding has_mount_below
 plain-folder n p unpointed free = elim (true-or-false (list_any (λ mount. is_prefix p mount.point) (all_mounts n))) [
   | inr h ↦ h
