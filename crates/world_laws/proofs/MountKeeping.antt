@@ -25,7 +25,7 @@ use Rattle.vfs_model.proofs.NodeLaws.{other_mount}
 use Rattle.vfs_model.specs.Boxes.{cell_files, is_backed_by, is_kept_dir, is_kept_on, lies_on_cell, lies_on_device, one_if, fits_kind}
 use Rattle.vfs_model.specs.Chain.{◌>>=◌, ◌>>◌, refuse◌when◌, refuse_by, wanted}
 use Rattle.vfs_model.specs.Consistency.{FoldersStand, IsClosedTree, IsLive, LivesFit, covered_mount, fits_mount, is_number, mount_numbered, same_kind, kind_number}
-use Rattle.vfs_model.specs.Content.{Content, content_of, device_content, file_count, fs_type_of, is_mounted, kept_origin, rom_at, rom_origin, same_type}
+use Rattle.vfs_model.specs.Content.{Content, content_of, device_content, file_count, fs_type_of, is_mounted, kept_origin, no_rom, rom_at, rom_origin, same_type}
 use Rattle.vfs_model.specs.FileLife.{Rows, free_rows, no_device, no_volume, volume_at, volume_named, with_kept}
 use Rattle.vfs_model.specs.Homes.{cell_capacity, change_row}
 use Rattle.vfs_model.specs.Laws.{HasNoPoint}
@@ -46,6 +46,8 @@ use Rattle.vfs_model.specs.declared.namespace.Mount.{Mount}
 use Rattle.vfs_model.specs.declared.namespace.Namespace.{Namespace}
 use Rattle.vfs_model.specs.declared.namespace.Origin.{Origin}
 use Rattle.vfs_model.specs.declared.namespace.Origin.TheVariants as origin
+use Rattle.vfs_model.specs.declared.namespace.RomNode.{RomNode}
+use Rattle.vfs_model.specs.declared.namespace.RomNode.TheVariants as rom
 use Rattle.vfs_model.specs.declared.namespace.VolumeState.{VolumeState}
 use Rattle.vfs_model.specs.declared.world.World.{World}
 use Rattle.world_laws.proofs.Adding.{MayMount, one-lives, one-rest, with_one}
@@ -53,11 +55,11 @@ use Rattle.world_laws.proofs.Agreeing.{Agrees, agrees-beside}
 use Rattle.world_laws.proofs.Binding.{Rest, rest-beside, rest-stands, some-life}
 use Rattle.world_laws.proofs.Contents.{AllDevices, DeviceFold, IsDevice, IsTree, device-content, empty-tree, kept-tree, rom-tree}
 use Rattle.world_laws.proofs.FillAll.{Filled, adds, fill-all}
-use Rattle.world_laws.proofs.Filling.{AllFit, Fill, InTree, begins_on, content_shape, node_shape, pending}
+use Rattle.world_laws.proofs.Filling.{AllFit, Fill, Fits, InTree, begins_on, content_shape, node_shape, pending}
 use Rattle.world_laws.proofs.FreeRows.{free_count, rows-length}
 use Rattle.world_laws.proofs.Growing.{MayStand, tree-stands}
 use Rattle.world_laws.proofs.Keeping.{Keeps, Kept, bind-kept, then-kept, there-folder, wanted-kept}
-use Rattle.world_laws.proofs.Lists.{AnyPlace, any-later, any-place, below-or-past, no-place, nor-first, nor-second, number-itself, or-either, or-first, or-second, place-any, same-number, same-or-other, same-some, set-here, set-there, equal-is, true-or-false, some-within}
+use Rattle.world_laws.proofs.Lists.{AnyPlace, any-later, any-place, below-or-past, no-place, nor-first, nor-second, number-itself, or-either, or-first, or-second, place-any, same-number, same-or-other, same-some, set-here, set-there, equal-is, other-number, true-or-false, some-within}
 use Rattle.world_laws.proofs.MoveKeeping.{plain-folder, within-or-not}
 use Rattle.world_laws.proofs.NameKeeping.{not-root}
 use Rattle.world_laws.proofs.Passing.{and-both, and-first, and-second, refuse-passed, refuse_by-passed, then-first, then-rest}
@@ -297,3 +299,237 @@ module _ (n : Namespace) (mount : Mount) (s : Stands Nothing n) (may : MayMount 
       or-only : (b : Bool) → (b || false) ≡ true → b ≡ true
       or-only true h = refl
       or-only false h = h
+
+  -- the mount is found by its number
+  found-own : mount_numbered (with_one n mount) mount.number ≡ Some mount
+  found-own =
+      find-append (λ x. x.number == mount.number) (all_mounts n) (mount ∷ [])
+      ∙ ap (λ x. option_or x (find (λ x. x.number == mount.number) (mount ∷ []))) (none-found (all_mounts n) may.own)
+      ∙ ap (λ b. if b then Some mount else None) (number-itself mount.number)
+    where
+      none-found : (mounts : List Mount) → list_any (λ other. other.number == mount.number) mounts ≡ false → find (λ x. x.number == mount.number) mounts ≡ None
+      none-found [] h = refl
+      none-found (x ∷ mounts) h =
+          ap (λ b. if b then Some x else find (λ x. x.number == mount.number) mounts) (nor-first (x.number == mount.number) _ h)
+          ∙ none-found mounts (nor-second (x.number == mount.number) (list_any (λ other. other.number == mount.number) mounts) h)
+
+  nothing-in : (row : ℕ) → IsUsed Nothing n row → IsUsed (InTree []) n row
+  nothing-in row (inl linked) = inl linked
+  nothing-in row (inr (inl held)) = inr (inl held)
+  nothing-in row (inr (inr none)) = absurd none
+
+  start-rest : Rest (InTree []) (with_one n mount)
+  start-rest =
+      let r = one-rest n mount s may in
+      record {
+        live = r.live;
+        used = λ row l h. nothing-in row (s.used row l h);
+        alone = r.alone;
+        folders = r.folders;
+        trees = r.trees;
+        roms = r.roms;
+        sizes = r.sizes;
+      }
+
+  -- a mount of which nothing lies on cells that are kept
+  other-start : same_type mount.fs fs.Cell ≡ false → (content : Content) → IsTree content → AllFit mount (with_one n mount) content →
+      ((volume cell : ℕ) → pending content volume cell ≡ 0) → file_count content ≤ free_count n → Fill mount (with_one n mount) (with_one n mount) [] [] content
+  other-start h content tree fit none count = record {
+    rest = start-rest;
+    boxes = other-boxes h;
+    devices = s.boxes.devices;
+    cells = λ volume cell v c. let before = s.boxes.cells volume cell v c in let no = none volume cell in omega (arith, before, no);
+    lives = one-lives n mount s may;
+    found = found-own;
+    files = λ path id kind e. absurd (cc);
+    alone = λ p q id same kind like e f r. absurd (cc);
+    shape = λ p. refl;
+    sorted = tt;
+    small = omega arith;
+    order = tree.sorted;
+    room = count;
+    fit = fit;
+    root = refl;
+    mounts = refl;
+    folders = refl;
+    trees = refl;
+  }
+
+  -- a mount of a volume: the cells of its files are to be bound again
+  kept-lives : LivesFit (with_kept (with_one n mount) (volume_named n mount.source) [])
+  kept-lives row life h =
+      some-and-kept (mount_numbered (with_one n mount) life.mount) life (one-lives n mount s may row life h)
+    where
+      some-and-kept : (found : Option Mount) (life : LiveFile) → IsSomeAnd found (λ m. fits_mount (with_one n mount) life m ≡ true) →
+          IsSomeAnd found (λ m. fits_mount (with_kept (with_one n mount) (volume_named n mount.source) []) life m ≡ true)
+      some-and-kept None life h = h
+      some-and-kept (Some m) life h = by life.backing refl h
+        where
+          by : (b : Backing) → life.backing ≡ b → fits_mount (with_one n mount) life m ≡ true → fits_mount (with_kept (with_one n mount) (volume_named n mount.source) []) life m ≡ true
+          by backing.Memory e k = subst (λ x. fits_mount (with_kept (with_one n mount) (volume_named n mount.source) []) (record life { backing = x }) m ≡ true) (sym e)
+              (subst (λ x. fits_mount (with_one n mount) (record life { backing = x }) m ≡ true) e k)
+          by (backing.Device device) e k = subst (λ x. fits_mount (with_kept (with_one n mount) (volume_named n mount.source) []) (record life { backing = x }) m ≡ true) (sym e)
+              (subst (λ x. fits_mount (with_one n mount) (record life { backing = x }) m ≡ true) e k)
+          by (backing.Cell v c) e k = subst (λ x. fits_mount (with_kept (with_one n mount) (volume_named n mount.source) []) (record life { backing = x }) m ≡ true) (sym e)
+              (subst (λ place. (same_kind life.kind (kind_of m.fs) && (v == place)) ≡ true) (sym (kept-named m.source))
+              (subst (λ x. fits_mount (with_one n mount) (record life { backing = x }) m ≡ true) e k))
+
+  abbrev kept_content : Content
+  kept_content = map (λ entry. (entry.0, kept_origin (volume_named n mount.source) entry.1)) (volume_at n (volume_named n mount.source)).kept
+
+  pending-own : (v cell : ℕ) → v ≡ volume_named n mount.source → (nodes : List (Path × KeptNode)) →
+      pending (map (λ entry. (entry.0, kept_origin (volume_named n mount.source) entry.1)) nodes) v cell ≡ count_by (λ entry. is_kept_on cell entry.1) nodes
+  pending-own v cell e [] = refl
+  pending-own v cell e (entry ∷ nodes) =
+      let one : pending (map (λ entry. (entry.0, kept_origin (volume_named n mount.source) entry.1)) (entry ∷ nodes)) v cell
+          ≡ one_if (begins_on v cell (kept_origin (volume_named n mount.source) entry.1)) + pending (map (λ entry. (entry.0, kept_origin (volume_named n mount.source) entry.1)) nodes) v cell =
+      sum_by-cons (λ entry. one_if (begins_on v cell entry.1)) (entry.0, kept_origin (volume_named n mount.source) entry.1) (map (λ entry. (entry.0, kept_origin (volume_named n mount.source) entry.1)) nodes) in
+      let other : count_by (λ entry. is_kept_on cell entry.1) (entry ∷ nodes) ≡ one_if (is_kept_on cell entry.1) + count_by (λ entry. is_kept_on cell entry.1) nodes =
+      sum_by-cons (λ entry. one_if (is_kept_on cell entry.1)) entry nodes in
+      let same = ap one_if (on-cell entry.1) in
+      let later = pending-own v cell e nodes in
+      omega (arith, one, other, same, later)
+    where
+      on-cell : (x : KeptNode) → begins_on v cell (kept_origin (volume_named n mount.source) x) ≡ is_kept_on cell x
+      on-cell kept.Dir = refl
+      on-cell (kept.File c) = ap (λ b. b && (c == cell)) (ap (λ k. volume_named n mount.source == k) e ∙ number-itself (volume_named n mount.source))
+
+  pending-other : (v cell : ℕ) → v ≢ volume_named n mount.source → (nodes : List (Path × KeptNode)) →
+      pending (map (λ entry. (entry.0, kept_origin (volume_named n mount.source) entry.1)) nodes) v cell ≡ 0
+  pending-other v cell e [] = refl
+  pending-other v cell e (entry ∷ nodes) =
+      let one : pending (map (λ entry. (entry.0, kept_origin (volume_named n mount.source) entry.1)) (entry ∷ nodes)) v cell
+          ≡ one_if (begins_on v cell (kept_origin (volume_named n mount.source) entry.1)) + pending (map (λ entry. (entry.0, kept_origin (volume_named n mount.source) entry.1)) nodes) v cell =
+      sum_by-cons (λ entry. one_if (begins_on v cell entry.1)) (entry.0, kept_origin (volume_named n mount.source) entry.1) (map (λ entry. (entry.0, kept_origin (volume_named n mount.source) entry.1)) nodes) in
+      let same = ap one_if (off-cell entry.1) in
+      let later = pending-other v cell e nodes in
+      omega (arith, one, same, later)
+    where
+      off-cell : (x : KeptNode) → begins_on v cell (kept_origin (volume_named n mount.source) x) ≡ false
+      off-cell kept.Dir = refl
+      off-cell (kept.File c) = ap (λ b. b && (c == cell)) (other-number (volume_named n mount.source) v (λ h. e (sym h)))
+
+  cell-cells : (v cell : ℕ) → v < length (with_kept (with_one n mount) (volume_named n mount.source) []).volumes →
+      cell < length (volume_at (with_kept (with_one n mount) (volume_named n mount.source) []) v).pages →
+      cell_files (with_kept (with_one n mount) (volume_named n mount.source) []) v cell
+      + pending (map (λ entry. (entry.0, kept_origin (volume_named n mount.source) entry.1)) (volume_at n (volume_named n mount.source)).kept) v cell
+      + one_if (slice_index_or (volume_at (with_kept (with_one n mount) (volume_named n mount.source) []) v).spare cell false) ≡ 1
+  cell-cells v cell l c =
+      let within : v < length n.volumes = subst (λ x. v < x) (length-set n.volumes (volume_named n mount.source) _) l in
+      let in_pages : cell < length (volume_at n v).pages = subst (λ xs. cell < length xs) (kept-pages v) c in
+      let before = s.boxes.cells v cell within in_pages in
+      let spare = ap (λ xs. one_if (slice_index_or xs cell false)) (kept-spare v) in
+      elim (same-or-other v (volume_named n mount.source)) [
+        | inl e ↦
+          let now = ap (λ nodes. count_by (is_backed_by (lies_on_cell v cell)) n.lives + count_by (λ entry. is_kept_on cell entry.1) nodes) (kept-own v e) in
+          let some = pending-own v cell e (volume_at n (volume_named n mount.source)).kept in
+          let were = ap (λ k. count_by (λ entry. is_kept_on cell entry.1) (volume_at n k).kept) e in
+          omega (arith, before, spare, now, some, were)
+        | inr e ↦
+          let now = ap (λ nodes. count_by (is_backed_by (lies_on_cell v cell)) n.lives + count_by (λ entry. is_kept_on cell entry.1) nodes) (kept-other v e) in
+          let none = pending-other v cell e (volume_at n (volume_named n mount.source)).kept in
+          omega (arith, before, spare, now, none)
+      ]
+
+  cell-fit : mount.fs ≡ fs.Cell → (nodes : List (Path × KeptNode)) →
+      AllFit mount (with_kept (with_one n mount) (volume_named n mount.source) []) (map (λ entry. (entry.0, kept_origin (volume_named n mount.source) entry.1)) nodes)
+  cell-fit e [] = tt
+  cell-fit e (entry ∷ nodes) = (one entry.1, cell-fit e nodes)
+    where
+      one : (x : KeptNode) → Fits mount (with_kept (with_one n mount) (volume_named n mount.source) []) entry.0 (kept_origin (volume_named n mount.source) x)
+      one kept.Dir = tt
+      one (kept.File c) = (e, sym (kept-named mount.source))
+
+  cell-start : mount.fs ≡ fs.Cell → file_count kept_content ≤ free_count n →
+      Fill mount (with_kept (with_one n mount) (volume_named n mount.source) []) (with_kept (with_one n mount) (volume_named n mount.source) []) [] [] kept_content
+  cell-start e count = record {
+    rest = rest-beside (InTree []) (with_one n mount) (with_kept (with_one n mount) (volume_named n mount.source) []).volumes n.devices start-rest;
+    boxes = cell-boxes;
+    devices = s.boxes.devices;
+    cells = cell-cells;
+    lives = kept-lives;
+    found = found-own;
+    files = λ path id kind e. absurd (cc);
+    alone = λ p q id same kind like e f r. absurd (cc);
+    shape = λ p. refl;
+    sorted = tt;
+    small = omega arith;
+    order = (kept-tree n (volume_named n mount.source) (s.boxes.kept (volume_named n mount.source))).sorted;
+    room = count;
+    fit = cell-fit e (volume_at n (volume_named n mount.source)).kept;
+    root = refl;
+    mounts = refl;
+    folders = refl;
+    trees = refl;
+  }
+
+  -- what a mount of each type begins with
+  pub record Begun (f : FsType) : Type 0 where
+    pub tree : IsTree (content_of n f mount.source)
+    pub fill : Fill mount (without_kept (with_one n mount) f mount.source) (without_kept (with_one n mount) f mount.source) [] [] (content_of n f mount.source)
+    pub pages : (u cell : ℕ) → cell_capacity (without_kept (with_one n mount) f mount.source) u cell ≡ cell_capacity n u cell
+
+  rom-fit : mount.fs ≡ fs.Rom → (nodes : List (Path × RomNode)) → AllFit mount (with_one n mount) (map (λ entry. (entry.0, rom_origin (rom_at n mount.source) entry.0 entry.1)) nodes)
+  rom-fit e [] = tt
+  rom-fit e (entry ∷ nodes) = (one entry.1, rom-fit e nodes)
+    where
+      one : (x : RomNode) → Fits mount (with_one n mount) entry.0 (rom_origin (rom_at n mount.source) entry.0 x)
+      one rom.Dir = tt
+      one (rom.File bytes) = e
+
+  rom-pending : (v cell : ℕ) (nodes : List (Path × RomNode)) → pending (map (λ entry. (entry.0, rom_origin (rom_at n mount.source) entry.0 entry.1)) nodes) v cell ≡ 0
+  rom-pending v cell [] = refl
+  rom-pending v cell (entry ∷ nodes) =
+      let one : pending (map (λ entry. (entry.0, rom_origin (rom_at n mount.source) entry.0 entry.1)) (entry ∷ nodes)) v cell
+          ≡ one_if (begins_on v cell (rom_origin (rom_at n mount.source) entry.0 entry.1)) + pending (map (λ entry. (entry.0, rom_origin (rom_at n mount.source) entry.0 entry.1)) nodes) v cell =
+      sum_by-cons (λ entry. one_if (begins_on v cell entry.1)) (entry.0, rom_origin (rom_at n mount.source) entry.0 entry.1) (map (λ entry. (entry.0, rom_origin (rom_at n mount.source) entry.0 entry.1)) nodes) in
+      let none = ap one_if (off entry.1) in
+      let later = rom-pending v cell nodes in
+      omega (arith, one, none, later)
+    where
+      off : (x : RomNode) → begins_on v cell (rom_origin (rom_at n mount.source) entry.0 x) ≡ false
+      off rom.Dir = refl
+      off (rom.File bytes) = refl
+
+  dev-fit : mount.fs ≡ fs.Dev → ((device : ℕ) → device < length n.devices → (slice_index_or n.devices device no_device).is_out ≡ false) → (content : Content) → AllDevices n content → AllFit mount (with_one n mount) content
+  dev-fit e home [] all = tt
+  dev-fit e home (entry ∷ content) all =
+      (subst (λ o. Fits mount (with_one n mount) entry.0 o) (sym all.0.is) (e, all.0.within, home all.0.device all.0.within, all.0.name), dev-fit e home content all.1)
+
+  dev-pending : (v cell : ℕ) (content : Content) → AllDevices n content → pending content v cell ≡ 0
+  dev-pending v cell [] all = refl
+  dev-pending v cell (entry ∷ content) all =
+      let one : pending (entry ∷ content) v cell ≡ one_if (begins_on v cell entry.1) + pending content v cell = sum_by-cons (λ entry. one_if (begins_on v cell entry.1)) entry content in
+      let none = ap (λ o. one_if (begins_on v cell o)) all.0.is in
+      let later = dev-pending v cell content all.1 in
+      omega (arith, one, none, later)
+
+  begun : (f : FsType) → mount.fs ≡ f → Begun f
+  begun fs.Tmp e = record {
+    tree = empty-tree;
+    fill = other-start (ap (λ t. same_type t fs.Cell) e) [] empty-tree tt (λ volume cell. refl) (omega arith);
+    pages = λ u cell. refl;
+  }
+  begun fs.Rom e =
+      let tree = rom-tree n (rom_at n mount.source) (s.roms (rom_at n mount.source)) in
+      record {
+        tree = tree;
+        fill = other-start (ap (λ t. same_type t fs.Cell) e) (content_of n fs.Rom mount.source) tree (rom-fit e (slice_index_or n.roms (rom_at n mount.source) no_rom).nodes)
+            (λ volume cell. rom-pending volume cell (slice_index_or n.roms (rom_at n mount.source) no_rom).nodes) (subst (λ t. file_count (content_of n t mount.source) ≤ free_count n) e room);
+        pages = λ u cell. refl;
+      }
+  begun fs.Dev e =
+      let count = subst (λ t. file_count (content_of n t mount.source) ≤ free_count n) e room in
+      let home = all-home n mount.source s (subst (λ t. is_taken n t mount.source ≡ false) e taken) in
+      let tree = devices-tree n s count in
+      record {
+        tree = tree;
+        fill = other-start (ap (λ t. same_type t fs.Cell) e) (content_of n fs.Dev mount.source) tree (dev-fit e home (device_content n) (device-content n).all)
+            (λ volume cell. dev-pending volume cell (device_content n) (device-content n).all) count;
+        pages = λ u cell. refl;
+      }
+  begun fs.Cell e = record {
+    tree = kept-tree n (volume_named n mount.source) (s.boxes.kept (volume_named n mount.source));
+    fill = cell-start e (subst (λ t. file_count (content_of n t mount.source) ≤ free_count n) e room);
+    pages = λ u cell. ap (λ pages. 4096 * slice_index_or pages cell 0) (kept-pages u);
+  }
