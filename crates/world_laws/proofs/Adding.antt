@@ -46,7 +46,7 @@ pub record Placed (mounts : List Mount) (mount : Mount) (place : ℕ) (d : Mount
   pub is : ((place < length mounts) × (slice_index_or (mounts ++ mount ∷ []) place d ≡ slice_index_or mounts place d))
       ⊎ ((place ≡ length mounts) × (slice_index_or (mounts ++ mount ∷ []) place d ≡ mount))
 
-placed : (mounts : List Mount) (mount : Mount) (place : ℕ) (d : Mount) → place < length (mounts ++ mount ∷ []) → Placed mounts mount place d
+pub placed : (mounts : List Mount) (mount : Mount) (place : ℕ) (d : Mount) → place < length (mounts ++ mount ∷ []) → Placed mounts mount place d
 placed mounts mount place d l = elim (below-or-past place (length mounts)) [
   | inl m ↦ record { is = inl (m, get_or_append_left mounts (mount ∷ []) d place m) }
   | inr m ↦
@@ -56,7 +56,7 @@ placed mounts mount place d l = elim (below-or-past place (length mounts)) [
 ]
 
 module _ (n : Namespace) (mount : Mount) (s : Stands Nothing n) (may : MayMount n mount) where
-  own-tree : tree_of n mount.number ≡ []
+  pub own-tree : tree_of n mount.number ≡ []
   own-tree = s.folders.unused mount.number may.own
 
   -- the tree of the new number is empty already
@@ -71,7 +71,7 @@ module _ (n : Namespace) (mount : Mount) (s : Stands Nothing n) (may : MayMount 
   all-placed : (place : ℕ) (d : Mount) → place < length (all_mounts (with_one n mount)) → Placed (all_mounts n) mount place d
   all-placed place d l = placed (all_mounts n) mount place d l
 
-  not-prefix : (place : ℕ) (d : Mount) → place < length (all_mounts n) → is_prefix mount.point (slice_index_or (all_mounts n) place d).point ≡ false
+  pub not-prefix : (place : ℕ) (d : Mount) → place < length (all_mounts n) → is_prefix mount.point (slice_index_or (all_mounts n) place d).point ≡ false
   not-prefix place d l = no-place (λ other. is_prefix mount.point other.point) (all_mounts n) place d may.clear l
 
   point-new : (place : ℕ) (d : Mount) → place < length (all_mounts n) → (slice_index_or (all_mounts n) place d).point ≢ mount.point

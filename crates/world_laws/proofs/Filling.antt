@@ -191,7 +191,7 @@ module _ (mount : Mount) where
   put-stays tree p q new found none there =
       at-put-other p q new tree (λ e. let gone = ap (λ r. value_at path_cmp r tree) e ∙ none in absurd (cc)) ∙ there
 
-  shape-none : (found : Option NodeKind) → node_shape found ≡ 0 → found ≡ None
+  pub shape-none : (found : Option NodeKind) → node_shape found ≡ 0 → found ≡ None
   shape-none None h = refl
   shape-none (Some node.Dir) h = absurd (omega (arith, h))
   shape-none (Some (node.File id kind)) h = absurd (omega (arith, h))

@@ -14,6 +14,7 @@ pub mod Freeing
 pub mod Growing
 pub mod Keeping
 pub mod Lists
+pub mod MountEnd
 pub mod MountKeeping
 pub mod MoveKeeping
 pub mod NameKeeping

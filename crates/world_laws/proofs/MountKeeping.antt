@@ -114,7 +114,7 @@ device-life device life h fits = by life.backing refl
     by (backing.Cell volume cell) e = let none = sym (ap (lies_on_device device) e) ∙ h in absurd (cc)
     by (backing.Device other) e = chr life.kind (subst (λ x. fits_kind (Some (record life { backing = x })) ≡ true) e fits)
 
-found-any : (p q : Mount → Bool) (mounts : List Mount) (x : Mount) → find p mounts ≡ Some x → q x ≡ true → list_any q mounts ≡ true
+pub found-any : (p q : Mount → Bool) (mounts : List Mount) (x : Mount) → find p mounts ≡ Some x → q x ≡ true → list_any q mounts ≡ true
 found-any p q [] x e h = absurd (cc)
 found-any p q (m ∷ mounts) x e h = at (p m) e (λ later. found-any p q mounts x later h)
   where
@@ -504,7 +504,7 @@ module _ (n : Namespace) (mount : Mount) (s : Stands Nothing n) (may : MayMount 
       let later = dev-pending v cell content all.1 in
       omega (arith, one, none, later)
 
-  begun : (f : FsType) → mount.fs ≡ f → Begun f
+  pub begun : (f : FsType) → mount.fs ≡ f → Begun f
   begun fs.Tmp e = record {
     tree = empty-tree;
     fill = other-start (ap (λ t. same_type t fs.Cell) e) [] empty-tree tt (λ volume cell. refl) (omega arith);
