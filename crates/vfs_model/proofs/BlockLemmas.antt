@@ -18,12 +18,12 @@ use Rattle.vfs_model.specs.declared.shell_state.Next.TheVariants as next
 use Rattle.vfs_model.specs.declared.shell_state.ShellState.{ShellState}
 
 -- the block of a finished line, and then the lines behind it
-finished-line : (state : ShellState) (line text : List ℕ) (answer : Answer) (later : ShellState → List Reply → SessionRun) →
+pub finished-line : (state : ShellState) (line text : List ℕ) (answer : Answer) (later : ShellState → List Reply → SessionRun) →
     answer.next ≡ next.Finished text →
     after_line state line answer later ≡ block_before (block_of state.shown line text) (later answer.state answer.left)
 finished-line state line text answer later e = rw e refl
 
-asking-line : (state : ShellState) (line : List ℕ) (asked : Step) (answer : Answer) (later : ShellState → List Reply → SessionRun) →
+pub asking-line : (state : ShellState) (line : List ℕ) (asked : Step) (answer : Answer) (later : ShellState → List Reply → SessionRun) →
     answer.next ≡ next.Ask asked → (after_line state line answer later).blocks ≡ []
 asking-line state line asked answer later e = rw e refl
 
@@ -69,7 +69,7 @@ unfolding session_run
 each-block-shows lines replies i h = block-shows lines _ replies i h
 
 -- an entry that is taken ends everything just where it is the end
-take-over : (deck : Deck) (s t : RunState) (entry : Entry) → take_entry deck s entry ≡ Some t → t.is_over ≡ is_end entry.who
+pub take-over : (deck : Deck) (s t : RunState) (entry : Entry) → take_entry deck s entry ≡ Some t → t.is_over ≡ is_end entry.who
 unfolding take_entry
 take-over deck s t entry e = by_over s.is_over e
   where

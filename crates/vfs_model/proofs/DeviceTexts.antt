@@ -1,5 +1,5 @@
 -- Worked examples: whole texts of scripts on volumes and character devices, and the summaries of soaks.
-use Rattle.std.specs.Prelude.{◌≡◌, Some, List, [], ◌∷◌, ◌++◌, codes, replicate, refl}
+use Rattle.std.specs.Prelude.{◌≡◌, Some, [], ◌∷◌, ◌++◌, codes, replicate, refl}
 use Rattle.vfs_base.specs.declared.describe.Describe.{Describe}
 use Rattle.vfs_model.proofs.CommandRuns.{shell}
 use Rattle.vfs_model.proofs.DeviceExamples.{sd0}

@@ -120,6 +120,12 @@ pub a_post_waits_for_its_session :
 unfolding steps shell scripts
 a_post_waits_for_its_session = (refl, refl, refl, refl, refl)
 
+pub a_post_waits_before_others_go_on :
+    (replays (codes "@1 mkdir /a" ∷ codes "@1 mkdir /b" ∷ codes "2 ls /" ∷ []) (codes "# 1 2 1 z") ≡ true)
+    × (replays (codes "@1 mkdir /a" ∷ codes "@1 mkdir /b" ∷ codes "2 ls /" ∷ []) (codes "# 2 1 1 z") ≡ false)
+unfolding steps shell scripts
+a_post_waits_before_others_go_on = (refl, refl)
+
 -- a run by threads
 abbrev pub pairs : List (List ℕ)
 pairs = codes "1 mkdir /a" ∷ codes "1 ls /" ∷ codes "2 mkdir /b" ∷ []

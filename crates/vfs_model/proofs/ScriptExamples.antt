@@ -1,5 +1,6 @@
 -- Worked examples of scripts, schedules and the generator.
 use Rattle.std.specs.Prelude.{◌≡◌, ℕ, true, false, Ok, Err, Result, List, [], ◌∷◌, ◌++◌, codes, refl, replicate}
+use Rattle.std.specs.Fmt.{digits}
 use Rattle.std.specs.List.{flat_map}
 use Rattle.hex.specs.Hex.{decode_pairs}
 use Rattle.vfs_base.specs.declared.deck.Act.{Act}
@@ -157,3 +158,24 @@ pub the_first_draws_list_the_volume :
     })
 unfolding soak_deck
 the_first_draws_list_the_volume = (refl, refl)
+
+-- a script that has a line of each kind
+pub a_soak_is_a_script : deck_of (ended (
+    codes "1 mkdir /v"
+    ∷ codes "1 mount sd0 /v cell"
+    ∷ codes "6 ls /v"
+    ∷ codes "3 read 3 7799"
+    ∷ codes "3 open /v/f12 rw,creat"
+    ∷ codes "5 write 3 x 1018"
+    ∷ codes "7 rm /v/f3"
+    ∷ codes "3 cat /v/f3"
+    ∷ codes "8 echo t7 /v/f10"
+    ∷ codes "4 close 3"
+    ∷ codes "7 open /v/f9 rw,creat"
+    ∷ codes "1 read 3 3913"
+    ∷ codes "! f13 r13"
+    ∷ codes "7 mv /v/f12 /v/f7"
+    ∷ []
+    )) ≡ Ok (soak_deck 167 12)
+unfolding deck_of soak_deck digits
+a_soak_is_a_script = refl

@@ -1,5 +1,5 @@
 -- Worked examples: whole texts of scripts whose sessions share files, mounts, roms and descriptors.
-use Rattle.std.specs.Prelude.{◌≡◌, true, Some, List, [], ◌∷◌, ◌++◌, codes, refl}
+use Rattle.std.specs.Prelude.{◌≡◌, true, Some, [], ◌∷◌, codes, refl}
 use Rattle.vfs_model.proofs.CommandRuns.{shell}
 use Rattle.vfs_model.proofs.ExampleSteps.{steps}
 use Rattle.vfs_model.proofs.ScriptExamples.{ended}

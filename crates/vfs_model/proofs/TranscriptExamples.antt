@@ -1,9 +1,9 @@
 -- Worked examples: whole texts of a shell on folders, paths and words.
-use Rattle.std.specs.Prelude.{◌≡◌, true, Some, List, [], ◌∷◌, ◌++◌, codes, refl}
+use Rattle.std.specs.Prelude.{◌≡◌, true, Some, [], ◌∷◌, codes, refl}
 use Rattle.vfs_model.proofs.CommandRuns.{shell}
 use Rattle.vfs_model.proofs.ExampleSteps.{steps}
 use Rattle.vfs_model.proofs.ScriptExamples.{ended}
-use Rattle.vfs_model.proofs.TranscriptRuns.{replay, replays, scripts, shell_text, shells}
+use Rattle.vfs_model.proofs.TranscriptRuns.{scripts, shell_text, shells}
 
 pub empty_input_shows_only_a_schedule :
     (shell_text [] (codes "# z")

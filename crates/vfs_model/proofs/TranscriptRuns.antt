@@ -1,20 +1,15 @@
 -- Short words for examples of scripts and what they show.
-use Rattle.std.specs.Prelude.{ℕ, Bool, true, Option, List, [], ◌∷◌, ◌++◌, map, codes}
-use Rattle.std.specs.Fmt.{decimal, digits}
-use Rattle.std.specs.List.{flat_map}
+use Rattle.std.specs.Prelude.{ℕ, Bool, Option, List, []}
+use Rattle.std.specs.Fmt.{digits}
 use Rattle.std.specs.Result.{result_unwrap_or}
 use Rattle.hex.specs.Hex.{decode_pairs}
 use Rattle.vfs_base.specs.declared.deck.Deck.{Deck}
 use Rattle.vfs_base.specs.declared.describe.Describe.{Describe}
 use Rattle.vfs_base.specs.declared.entry.Entry.{Entry}
-use Rattle.vfs_base.specs.declared.entry.Mark.{Mark}
-use Rattle.vfs_base.specs.declared.entry.Mark.TheVariants as mark
-use Rattle.vfs_base.specs.declared.entry.Who.{Who}
-use Rattle.vfs_base.specs.declared.entry.Who.TheVariants as who
 use Rattle.vfs_model.proofs.ExampleSteps.{bare}
 use Rattle.vfs_model.proofs.ScriptExamples.{ended}
 use Rattle.vfs_model.specs.Deck.{deck_of, empty_deck, shell_deck}
-use Rattle.vfs_model.specs.Schedule.{schedule_entries, schedule_line}
+use Rattle.vfs_model.specs.Schedule.{schedule_entries}
 use Rattle.vfs_model.specs.ScriptRun.{take_entry}
 use Rattle.vfs_model.specs.Session.{session_run}
 use Rattle.vfs_model.specs.Soak.{soak_deck}

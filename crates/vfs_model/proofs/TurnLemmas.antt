@@ -15,7 +15,7 @@ both-true : (a b : Bool) → (a && b) ≡ true → (a ≡ true) × (b ≡ true)
 both-true true b h = (refl, h)
 both-true false b h = absurd (cc)
 
-same_who-is : (a b : Who) → same_who a b ≡ true → a ≡ b
+pub same_who-is : (a b : Who) → same_who a b ≡ true → a ≡ b
 same_who-is (who.Session j) (who.Session k) h = ap who.Session (grind arith)
 same_who-is (who.Flush p) (who.Flush q) h = ap who.Flush (grind arith)
 same_who-is (who.Reclaim p) (who.Reclaim q) h = ap who.Reclaim (grind arith)
@@ -34,15 +34,15 @@ same_who-is who.End (who.Flush q) h = absurd (cc)
 same_who-is who.End (who.Reclaim q) h = absurd (cc)
 
 -- An entry keeps its turn: it is of the one whose turn it is, it can be taken, and so on from there.
-record KeepsTurn (deck : Deck) (s : RunState) (agenda : Agenda) (entry : Entry) (entries : List Entry) : Type 0 where
-  turn : Turn
-  found : next_turn s agenda.posted agenda.tasks ≡ Some turn
-  who : turn.who ≡ entry.who
-  next : RunState
-  taken : take_entry deck s entry ≡ Some next
-  later : keeps_turns deck next turn.agenda entries ≡ true
+pub record KeepsTurn (deck : Deck) (s : RunState) (agenda : Agenda) (entry : Entry) (entries : List Entry) : Type 0 where
+  pub turn : Turn
+  pub found : next_turn s agenda.posted agenda.tasks ≡ Some turn
+  pub who : turn.who ≡ entry.who
+  pub next : RunState
+  pub taken : take_entry deck s entry ≡ Some next
+  pub later : keeps_turns deck next turn.agenda entries ≡ true
 
-keeps-turn : (deck : Deck) (s : RunState) (agenda : Agenda) (entry : Entry) (entries : List Entry) →
+pub keeps-turn : (deck : Deck) (s : RunState) (agenda : Agenda) (entry : Entry) (entries : List Entry) →
     keeps_turns deck s agenda (entry ∷ entries) ≡ true → KeepsTurn deck s agenda entry entries
 keeps-turn deck s agenda entry entries h = elim (next_turn s agenda.posted agenda.tasks) as (λ x. next_turn s agenda.posted agenda.tasks ≡ x → KeepsTurn deck s agenda entry entries) [
   | None ↦ λ e. let no : keeps_turns deck s agenda (entry ∷ entries) ≡ false = rw e refl in absurd (cc)
@@ -60,7 +60,7 @@ keeps-turn deck s agenda entry entries h = elim (next_turn s agenda.posted agend
 parts-same : (a b : Mark) (xs ys : List Mark) → (a ∷ xs) ≡ (b ∷ ys) → (a ≡ b) × (xs ≡ ys)
 parts-same a b xs ys e = (cc, cc)
 
-some-turn : (a b : Turn) → Some a ≡ Some b → a ≡ b
+pub some-turn : (a b : Turn) → Some a ≡ Some b → a ≡ b
 some-turn a b e = cc
 
 some-state : (a b : RunState) → Some a ≡ Some b → a ≡ b

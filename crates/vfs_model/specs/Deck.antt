@@ -20,6 +20,7 @@ pub record DeckDraft : Type 0 where
   pub deck : Deck
   pub rom : Option OpenRom
 
+-- the script without lines
 abbrev pub empty_deck : Deck
 empty_deck = record { roms = []; acts = [] }
 
@@ -27,6 +28,7 @@ empty_deck = record { roms = []; acts = [] }
 abbrev pub new_rom : List ℕ → OpenRom
 new_rom name = record { name = name; text = []; draft = record { items = []; last_file = None } }
 
+-- the name is one of a rom
 abbrev pub has_rom : Deck → List ℕ → Bool
 has_rom deck name = list_any (λ rom. same_bytes rom.name name) deck.roms
 
@@ -47,14 +49,16 @@ with_rom_line deck rom raw =
     if same_bytes (line_text raw) (codes "end") then Some (record { deck = with_rom deck rom; rom = None })
     else option_map (λ draft. record { deck = deck; rom = Some (record rom { text = rom.text ++ raw; draft = draft }) }) (with_line rom.draft (line_text raw))
 
+-- a line outside a rom, or in one
+abbrev pub with_line_at : Deck → Option OpenRom → List ℕ → Option DeckDraft
+with_line_at deck None raw = with_deck_line deck (deck_line (line_text raw))
+with_line_at deck (Some rom) raw = with_rom_line deck rom raw
+
 -- what the lines mean with this one, if it is in the form
 abbrev pub with_raw_line : DeckDraft → List ℕ → Option DeckDraft
-with_raw_line draft raw = by_rom draft.deck draft.rom raw
-  where
-    by_rom : Deck → Option OpenRom → List ℕ → Option DeckDraft
-    by_rom deck None raw = with_deck_line deck (deck_line (line_text raw))
-    by_rom deck (Some rom) raw = with_rom_line deck rom raw
+with_raw_line draft raw = with_line_at draft.deck draft.rom raw
 
+-- what follows from the draft, or the number of the line where there is none
 abbrev pub or_bad_line : ℕ → Option DeckDraft → (DeckDraft → Result Deck ℕ) → Result Deck ℕ
 or_bad_line number None go = Err number
 or_bad_line number (Some draft) go = go draft

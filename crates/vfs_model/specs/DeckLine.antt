@@ -20,6 +20,7 @@ pub data DeckLine : Type 0 where
   -- the lines that follow, up to `end`, describe the rom of this name
   Opens : List ℕ → DeckLine
 
+-- spaces alone, or `#` first
 abbrev pub is_blank_line : List ℕ → Bool
 is_blank_line line = list_all is_space line || same_bytes (take 1 line) (codes "#")
 
@@ -34,18 +35,21 @@ post_of go (byte ∷ []) = option_map (λ k. act.Post k [] go) (session_digit by
 post_of go (byte ∷ space ∷ text) =
     if space == 32 then option_map (λ k. act.Post k text go) (session_digit byte) else None
 
+-- the text isn't empty
 abbrev pub has_bytes : List ℕ → Bool
 has_bytes [] = false
 has_bytes (byte ∷ bytes) = true
 
+-- what is no end
+abbrev pub unless_end : Option Who → Option Who
+unless_end None = None
+unless_end (Some asker) = if is_end asker then None else Some asker
+
 -- who an event is a step of: `k`, `fR` or `rR`
 abbrev pub event_of : List ℕ → Option Who
 event_of text = unless_end (who_of text)
-  where
-    unless_end : Option Who → Option Who
-    unless_end None = None
-    unless_end (Some asker) = if is_end asker then None else Some asker
 
+-- an event before others, if all are events
 abbrev pub event_before : Option Who → Option (List Who) → Option (List Who)
 event_before None later = None
 event_before (Some asker) None = None

@@ -1,11 +1,8 @@
--- The commands of open files.
-use Rattle.std.specs.Prelude.{ℕ, ◌*◌, ◌==◌, bit_and, Bool, not, ◌&&◌, nat_lt, ℤ, Option, Some, None, List, [], ◌∷◌, ◌++◌, length, codes, decimal, Result, Ok, Err, if◌then◌else◌}
+-- The commands that read, write and place open files; and all commands of open files.
+use Rattle.std.specs.Prelude.{ℕ, ◌*◌, not, nat_lt, ℤ, Option, Some, None, List, [], ◌∷◌, length, codes, Result, Ok, Err, if◌then◌else◌}
 use Rattle.std.specs.List.{repeat}
 use Rattle.vfs_base.specs.declared.errno.Errno.{Errno}
 use Rattle.vfs_base.specs.declared.errno.Errno.TheVariants as errno
-use Rattle.vfs_base.specs.declared.flags.OpenFlags.{OpenFlags}
-use Rattle.vfs_base.specs.declared.ids.FileId.{FileId}
-use Rattle.vfs_base.specs.declared.ids.HoldId.{HoldId}
 use Rattle.vfs_base.specs.declared.kinds.Kind.{Kind}
 use Rattle.vfs_base.specs.declared.limits.TheConstants.{READ_MAX, WRITE_MAX}
 use Rattle.vfs_base.specs.declared.reply.Reply.{Reply}
@@ -13,22 +10,18 @@ use Rattle.vfs_base.specs.declared.reply.Reply.TheVariants as reply
 use Rattle.vfs_base.specs.declared.step.Step.{Step}
 use Rattle.vfs_base.specs.declared.step.Step.TheVariants as step
 use Rattle.vfs_model.specs.Chain.{◌>>=◌, ◌>>◌, refuse◌when◌}
-use Rattle.vfs_model.specs.CommandText.{bytes_line, fails, line, number_line, usage}
-use Rattle.vfs_model.specs.CommandWords.{flags_of, meaning, number_of, offset_of, one_word, same_word, three_words, two_words}
-use Rattle.vfs_model.specs.CopyCommands.{is_cut, moved_place}
+use Rattle.vfs_model.specs.CommandText.{bytes_line, fails, number_line, usage}
+use Rattle.vfs_model.specs.CommandWords.{meaning, number_of, offset_of, one_word, same_word, three_words, two_words}
+use Rattle.vfs_model.specs.OpenCommands.{close, dup, open_words, with_open_files}
 use Rattle.vfs_model.specs.FolderCommands.{one_step}
 use Rattle.vfs_model.specs.Mappings.{is_chr}
-use Rattle.vfs_model.specs.OpenFiles.{add_file, close_file, dup_file, has_all_descriptors, open_file, seek, set_place}
-use Rattle.vfs_model.specs.OpenStep.{for_reading, for_writing, truncates}
+use Rattle.vfs_model.specs.OpenFiles.{moved_place, open_file, seek, set_place}
 use Rattle.vfs_model.specs.Talk.{Talk, ask, changing, checked, shows}
 use Rattle.vfs_model.specs.declared.shell_state.OpenFile.{OpenFile}
 use Rattle.vfs_model.specs.declared.shell_state.OpenFiles.{OpenFiles}
 use Rattle.vfs_model.specs.declared.shell_state.ShellState.{ShellState}
 use Rattle.vfs_model.specs.declared.shell_state.Whence.{Whence}
 use Rattle.vfs_model.specs.declared.shell_state.Whence.TheVariants as whence
-
-abbrev pub with_open_files : OpenFiles → ShellState → ShellState
-with_open_files open_files state = record state { open_files = open_files }
 
 -- the open files after a change that is not refused, or else as they were
 abbrev pub changed_or_same : OpenFiles → Result OpenFiles Errno → OpenFiles
@@ -42,58 +35,6 @@ kind_place kind place = if is_chr kind then 0 else place
 abbrev pub with_place : ℕ → Kind → ℕ → ShellState → ShellState
 with_place fd kind place state =
     with_open_files (changed_or_same state.open_files (set_place state.open_files fd (kind_place kind place))) state
-
-abbrev pub descriptor_line : ℕ → List ℕ
-descriptor_line fd = line (codes "fd " ++ decimal fd)
-
--- each write goes to the end of the file
-abbrev pub appends_always : OpenFlags → Bool
-appends_always flags = bit_and flags.0 32 == 32
-
--- the open file of an Opened, from its first byte on
-abbrev pub opened_file : HoldId → FileId → Kind → OpenFlags → OpenFile
-opened_file hold file kind flags = record {
-  hold = hold;
-  file = file;
-  kind = kind;
-  reads = for_reading flags;
-  writes = for_writing flags;
-  appends = appends_always flags;
-  place = 0;
-}
-
-abbrev pub cut_done : List ℕ → ℕ → Reply → Talk
-cut_done word fd reply.Done = shows (descriptor_line fd)
-cut_done word fd (reply.Refused errno) = fails (codes "open") word errno
-cut_done word fd _ = shows []
-
--- the file is cut to no bytes where that was asked for, also one that this very command made
-abbrev pub cut_opened : List ℕ → OpenFlags → FileId → Kind → ℕ → Talk
-cut_opened word flags file kind fd =
-    if truncates flags && is_cut kind then ask (step.Trunc file 0) (cut_done word fd) else shows (descriptor_line fd)
-
--- the descriptor is there from now on, whatever a Trunc replies
-abbrev pub add_opened : List ℕ → OpenFlags → OpenFile → Talk
-add_opened word flags file state =
-    checked (fails (codes "open") word) (add_file state.open_files file)
-    (λ new. changing (with_open_files new.open_files) (cut_opened word flags file.file file.kind new.fd)) state
-
-abbrev pub open_replied : List ℕ → OpenFlags → Reply → Talk
-open_replied word flags (reply.Opened hold file kind) = add_opened word flags (opened_file hold file kind flags)
-open_replied word flags (reply.Refused errno) = fails (codes "open") word errno
-open_replied word flags _ = shows []
-
--- a descriptor is looked for before the path
-abbrev pub open_path : List ℕ → OpenFlags → Talk
-open_path word flags state =
-    checked (fails (codes "open") word) (refuse errno.EMFILE when has_all_descriptors state.open_files)
-    (λ passed. ask (step.Open word flags) (open_replied word flags)) state
-
-abbrev pub open_form : List ℕ
-open_form = codes "open PATH FLAGS"
-
-abbrev pub open_words : List (List ℕ) → Talk
-open_words words = two_words open_form (λ path mode. meaning open_form (flags_of mode) (open_path path)) words
 
 -- the open file of a descriptor, to read so many bytes
 abbrev pub read_checks : OpenFiles → ℕ → ℕ → Result OpenFile Errno
@@ -196,14 +137,6 @@ lseek words =
     (λ word off from. meaning lseek_form (number_of word)
     (λ fd. meaning lseek_form (offset_of off) (λ offset. meaning lseek_form (seek_from from word fd offset) (lseek_file word fd)))) words
 
-abbrev pub dup_descriptor : List ℕ → ℕ → Talk
-dup_descriptor word fd state =
-    checked (fails (codes "dup") word) (dup_file state.open_files fd)
-    (λ new. changing (with_open_files new.open_files) (shows (descriptor_line new.fd))) state
-
-abbrev pub dup : List (List ℕ) → Talk
-dup words = one_word (codes "dup FD") (λ word. meaning (codes "dup FD") (number_of word) (dup_descriptor word)) words
-
 -- the open file of a descriptor, to cut it
 abbrev pub cut_checks : OpenFiles → ℕ → Result OpenFile Errno
 cut_checks open_files fd = do
@@ -231,25 +164,6 @@ sync_file word fd state =
 
 abbrev pub fsync : List (List ℕ) → Talk
 fsync words = one_word (codes "fsync FD") (λ word. meaning (codes "fsync FD") (number_of word) (sync_file word)) words
-
--- the descriptor goes with the reply; where the Close is refused it stays
-abbrev pub close_replied : List ℕ → OpenFiles → Reply → Talk
-close_replied word left reply.Done = changing (with_open_files left) (shows [])
-close_replied word left (reply.Refused errno) = fails (codes "close") word errno
-close_replied word left _ = shows []
-
--- the open file is closed with its last descriptor, and a further descriptor goes without a step
-abbrev pub close_last : List ℕ → OpenFiles → Option OpenFile → Talk
-close_last word left None = changing (with_open_files left) (shows [])
-close_last word left (Some file) = ask (step.Close file.hold) (close_replied word left)
-
-abbrev pub close_descriptor : List ℕ → ℕ → Talk
-close_descriptor word fd state =
-    checked (fails (codes "close") word) (close_file state.open_files fd)
-    (λ closed. close_last word closed.open_files closed.last) state
-
-abbrev pub close : List (List ℕ) → Talk
-close words = one_word (codes "close FD") (λ word. meaning (codes "close FD") (number_of word) (close_descriptor word)) words
 
 -- what a command of this family does with its words
 abbrev pub file_command : List ℕ → List (List ℕ) → Option Talk

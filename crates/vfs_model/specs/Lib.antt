@@ -10,7 +10,9 @@ pub mod ConsistencyLaws
 pub mod Content
 pub mod CopyCommands
 pub mod Deck
+pub mod DeckLaws
 pub mod DeckLine
+pub mod DescriptorLaws
 pub mod FileCommands
 pub mod FileLife
 pub mod FileMoves
@@ -34,6 +36,7 @@ pub mod NamespaceOutcome
 pub mod NamespaceStep
 pub mod NormalPath
 pub mod Numeral
+pub mod OpenCommands
 pub mod OpenFiles
 pub mod OpenStep
 pub mod ReferenceSteps
@@ -43,11 +46,13 @@ pub mod Schedule
 pub mod Script
 pub mod ScriptRun
 pub mod Session
+pub mod ShellLaws
 pub mod Shown
 pub mod Soak
 pub mod Summary
 pub mod Tables
 pub mod Talk
+pub mod TextCommands
 pub mod Transcript
 pub mod TranscriptLaws
 pub mod Tree

@@ -1,5 +1,5 @@
 -- The open files of a shell, and their descriptors.
-use Rattle.std.specs.Prelude.{ℕ, ◌+◌, ◌-◌, ◌==◌, Bool, false, not, nat_lt, is_none, nat_abs, pos, ℤ, ◌+ℤ◌, int_lt, Option, Some, None, count_by, replicate, slice_index_or, slice_set, Result, Ok, if◌then◌else◌}
+use Rattle.std.specs.Prelude.{ℕ, ◌+◌, ◌^◌, min, ◌-◌, ◌==◌, Bool, false, not, nat_lt, is_none, nat_abs, pos, ℤ, ◌+ℤ◌, int_lt, Option, Some, None, count_by, replicate, slice_index_or, slice_set, Result, Ok, if◌then◌else◌}
 use Rattle.std.specs.List.{list_any, position_or_len}
 use Rattle.std.specs.Option.{option_and_then}
 use Rattle.vfs_base.specs.declared.errno.Errno.{Errno}
@@ -10,6 +10,14 @@ use Rattle.vfs_model.specs.declared.shell_state.OpenFile.{OpenFile}
 use Rattle.vfs_model.specs.declared.shell_state.OpenFiles.{OpenFiles}
 use Rattle.vfs_model.specs.declared.shell_state.Whence.{Whence}
 use Rattle.vfs_model.specs.declared.shell_state.Whence.TheVariants as whence
+
+-- the greatest place of an open file
+abbrev pub place_max : ℕ
+place_max = 2 ^ 63 + 2 ^ 20
+
+-- a place, so many bytes on
+abbrev pub moved_place : ℕ → ℕ → ℕ
+moved_place place count = min (place + count) place_max
 
 -- no descriptor is used
 abbrev pub opening_files : OpenFiles
@@ -93,6 +101,13 @@ whence_place file whence.Set = 0
 whence_place file whence.Cur = file.place
 whence_place file (whence.End size) = size
 
+-- the place at an offset from another one
+abbrev pub sought_place : ℕ → ℤ → Result ℕ Errno
+sought_place from off = do
+  refuse errno.EINVAL when int_lt (pos from +ℤ off) (pos 0)
+  refuse errno.EOVERFLOW when int_lt (pos OFF_MAX) (pos from +ℤ off)
+  Ok (nat_abs (pos from +ℤ off))
+
 -- a place that was sought, and the open files with it
 pub record Sought : Type 0 where
   pub place : ℕ
@@ -102,10 +117,9 @@ pub record Sought : Type 0 where
 unfoldable pub seek : OpenFiles → ℕ → ℤ → Whence → Result Sought Errno
 seek open_files fd off whence = do
   file ← open_file open_files fd
-  refuse errno.EINVAL when int_lt (pos (whence_place file whence) +ℤ off) (pos 0)
-  refuse errno.EOVERFLOW when int_lt (pos OFF_MAX) (pos (whence_place file whence) +ℤ off)
-  moved ← set_place open_files fd (nat_abs (pos (whence_place file whence) +ℤ off))
-  Ok (record { place = nat_abs (pos (whence_place file whence) +ℤ off); open_files = moved })
+  place ← sought_place (whence_place file whence) off
+  moved ← set_place open_files fd place
+  Ok (record { place = place; open_files = moved })
 
 -- a descriptor of the open file of this number
 abbrev pub leads_to : ℕ → Option ℕ → Bool

@@ -54,6 +54,7 @@ mark_of (byte ∷ bytes) =
 abbrev pub begins_mark : ℕ → Bool
 begins_mark byte = byte == 33 || byte == 109
 
+-- an entry of both of its parts, where each is one
 abbrev pub entry_with : Option Who → Option Mark → Option Entry
 entry_with None m = None
 entry_with (Some asker) None = None
@@ -87,6 +88,7 @@ abbrev pub entry_texts : List ℕ → Option (List (List ℕ))
 entry_texts [] = None
 entry_texts (byte ∷ bytes) = if byte == 35 then behind_empty (slice_split is_space bytes) else None
 
+-- the entries of the texts; without texts the first entry is outside the form
 abbrev pub entries_of : Option (List (List ℕ)) → Result (List Entry) ℕ
 entries_of None = Err 0
 entries_of (Some texts) = entries_from 0 texts
@@ -96,6 +98,7 @@ entries_of (Some texts) = entries_from 0 texts
 unfoldable pub schedule_entries : List ℕ → Result (List Entry) ℕ
 schedule_entries line = entries_of (entry_texts (if is_ended line then but_last line else line))
 
+-- the end, and nobody else
 abbrev pub is_end : Who → Bool
 is_end (who.Session k) = false
 is_end (who.Flush row) = false

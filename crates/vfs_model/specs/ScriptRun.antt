@@ -1,8 +1,8 @@
 -- Where a script stands after a schedule: each entry is taken, where it can be.
 use Rattle.std.specs.Prelude.{◌≡◌, ℕ, ◌+◌, ◌-◌, Bool, true, false, is_none, unwrap_or, Option, Some, None, List, [], ◌∷◌, ◌++◌, length, map, replicate, slice_index_or, slice_set, if◌then◌else◌}
-use Rattle.std.specs.List.{list_all, range_with_len}
+use Rattle.std.specs.List.{list_all, list_any, position, range_with_len}
 use Rattle.std.specs.Option.{option_and_then, option_or}
-use Rattle.std.specs.Result.{result_ok}
+use Rattle.std.specs.Result.{is_err, result_ok}
 use Rattle.vfs_base.specs.declared.deck.Deck.{Deck}
 use Rattle.vfs_base.specs.declared.deck.RomText.{RomText}
 use Rattle.vfs_base.specs.declared.describe.Describe.{Describe}
@@ -35,6 +35,14 @@ rom_image text = record {
   name = text.name;
   nodes = map (λ item. (item.0, rom_node item.1)) (unwrap_or (result_ok (manifest_tree text.manifest)) []);
 }
+
+-- the place of the first rom whose text is outside the form of manifests, counted from 0; a script that was read has none
+abbrev pub first_bad_rom : Deck → Option ℕ
+first_bad_rom deck = position (λ rom. is_err (manifest_tree rom.manifest)) deck.roms
+
+-- a character device doesn't tell its input, so no text can be computed
+abbrev pub has_untold : Describe → Bool
+has_untold describe = list_any (λ shape. is_none shape.input) describe.chars
 
 -- Where a script stands after a front of a schedule.
 pub record RunState : Type 0 where
@@ -82,6 +90,7 @@ heard_after heard (who.Flush row) reply = heard
 heard_after heard (who.Reclaim row) reply = heard
 heard_after heard who.End reply = heard
 
+-- the world goes on, the session hears the reply, and after the end nothing follows
 abbrev pub state_after_step : RunState → Who → WorldOutcome → RunState
 state_after_step s asker outcome =
     record { world = outcome.next; heard = heard_after s.heard asker outcome.reply; is_over = is_end asker }
@@ -119,6 +128,7 @@ untaken_from at deck s (entry ∷ entries) = by_state (take_entry deck s entry) 
 abbrev pub first_untaken : Deck → Describe → List Entry → Option ℕ
 first_untaken deck describe schedule = untaken_from 0 deck (opening_state deck describe) schedule
 
+-- the end was taken
 abbrev pub has_ended : Option RunState → Bool
 has_ended None = false
 has_ended (Some s) = s.is_over

@@ -33,6 +33,7 @@ pub record SessionRun : Type 0 where
   -- the replies behind those of the lines: to exit steps
   pub left : List Reply
 
+-- a block before those of the lines behind it
 abbrev pub block_before : List ℕ → SessionRun → SessionRun
 block_before block run = record run { blocks = block ∷ run.blocks }
 

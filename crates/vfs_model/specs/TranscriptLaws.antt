@@ -1,5 +1,5 @@
 -- The laws of schedules, sessions and transcripts, each proved once for all who stand on them.
-use Rattle.std.specs.Prelude.{◌≡◌, ℕ, ◌<◌, ◌≤◌, ◌^◌, All, Bool, true, false, is_some, is_none, Some, Ok, List, [], ◌∷◌, ◌++◌, length, map, take, slice_index_or}
+use Rattle.std.specs.Prelude.{◌≡◌, ◌⊎◌, ℕ, ◌<◌, ◌≤◌, ◌^◌, All, Bool, true, false, is_some, is_none, Some, Ok, List, [], ◌∷◌, ◌++◌, length, map, take, slice_index_or}
 use Rattle.std.specs.Option.{option_and_then}
 use Rattle.vfs_base.specs.declared.deck.Deck.{Deck}
 use Rattle.vfs_base.specs.declared.describe.Describe.{Describe}
@@ -11,9 +11,10 @@ use Rattle.vfs_base.specs.declared.entry.Who.TheVariants as who
 use Rattle.vfs_base.specs.declared.limits.TheConstants.{ROWS, SESSIONS}
 use Rattle.vfs_base.specs.declared.reply.Reply.{Reply}
 use Rattle.vfs_model.specs.Command.{line_talk}
+use Rattle.vfs_model.specs.DeckLaws.{IsScript}
 use Rattle.vfs_model.specs.Schedule.{is_end_last, schedule_entries, schedule_line, schedule_text}
-use Rattle.vfs_model.specs.Session.{SessionRun, block_of, session_run}
-use Rattle.vfs_model.specs.ScriptRun.{first_untaken, has_ended, state_after, take_entry}
+use Rattle.vfs_model.specs.Session.{SessionRun, block_of, is_pending, session_run, wanted_step}
+use Rattle.vfs_model.specs.ScriptRun.{IsWhole, RunState, first_untaken, has_ended, run_of, state_after, take_entry}
 use Rattle.vfs_model.specs.Transcript.{shown, transcript}
 use Rattle.vfs_model.specs.Turns.{FollowsScript}
 use Rattle.vfs_model.specs.declared.script_form.ScriptForm.{ScriptForm}
@@ -33,6 +34,7 @@ IsMark mark.Clear = Unit {0}
 IsMark (mark.Fault n) = n < 2 ^ 64
 IsMark (mark.NoMem n) = n < 2 ^ 64
 
+-- both parts of an entry are in their ranges
 abbrev pub IsEntry : Entry → Type 0
 IsEntry entry = IsWho entry.who × IsMark entry.mark
 
@@ -40,6 +42,11 @@ IsEntry entry = IsWho entry.who × IsMark entry.mark
 abbrev pub PrintedScheduleIsRead : Type 0
 PrintedScheduleIsRead = (schedule : List Entry) → All IsEntry schedule →
     (schedule_entries (schedule_line schedule) ≡ Ok schedule) × (schedule_entries (schedule_text schedule) ≡ Ok schedule)
+
+-- what is read as a schedule is a printed one, with its line feed or without it
+abbrev pub ReadScheduleIsPrinted : Type 0
+ReadScheduleIsPrinted = (line : List ℕ) (schedule : List Entry) → schedule_entries line ≡ Ok schedule →
+    ((line ≡ schedule_line schedule) ⊎ (line ≡ schedule_text schedule)) × All IsEntry schedule
 
 -- the entry can be taken after these
 abbrev pub can_take : Deck → Describe → List Entry → Entry → Bool
@@ -111,3 +118,26 @@ EachBlockShowsItsLine = (lines : List (List ℕ)) (replies : List Reply) (i : �
     i < length (session_run lines replies).blocks →
     (i < length lines)
     × ShowsLine (session_run (take i lines) replies) (slice_index_or lines i []) (slice_index_or (session_run lines replies).blocks i [])
+
+-- what a session was shown stays: after more of a schedule its blocks are those that it had, and others behind them
+abbrev pub ShownBlocksStay : Type 0
+ShownBlocksStay = (deck : Deck) (describe : Describe) (front rest : List Entry) (before after : RunState) (k : ℕ) →
+    state_after deck describe front ≡ Some before → state_after deck describe (front ++ rest) ≡ Some after →
+    (later : List (List ℕ)) × ((run_of deck after k).blocks ≡ (run_of deck before k).blocks ++ later)
+
+-- the step that a pending command asks is the one that its session wants, whatever lines are posted behind it
+abbrev pub PendingStepIsWanted : Type 0
+PendingStepIsWanted = (posted more : List (List ℕ)) (replies : List Reply) → is_pending (session_run posted replies) ≡ true →
+    wanted_step (session_run (posted ++ more) replies) ≡ (session_run posted replies).wanted
+
+-- the schedule is whole, or goes on by one entry that nothing stops
+abbrev pub IsWholeOrGoesOn : ScriptForm → Deck → Describe → List Entry → Type 0
+IsWholeOrGoesOn shape deck describe schedule =
+    IsWhole deck describe schedule
+    ⊎ ((asker : Who) × FollowsScript shape deck describe (schedule ++ record { who = asker; mark = mark.Clear } ∷ []))
+
+-- a shell and a replay never get stuck: whoever's turn it is has a step to take, until the schedule is whole
+abbrev pub ScriptGoesOn : Type 0
+ScriptGoesOn = (deck : Deck) (describe : Describe) (schedule : List Entry) → IsScript deck →
+    (FollowsScript form.Shell deck describe schedule → IsWholeOrGoesOn form.Shell deck describe schedule)
+    × (FollowsScript form.Replay deck describe schedule → IsWholeOrGoesOn form.Replay deck describe schedule)

@@ -40,6 +40,7 @@ pub record Agenda : Type 0 where
   pub posted : List (List (List ℕ))
   pub tasks : List Task
 
+-- nothing is posted yet, and all is to be done
 abbrev pub opening_agenda : Deck → Agenda
 opening_agenda deck = record { posted = replicate SESSIONS []; tasks = script_tasks deck }
 
@@ -93,6 +94,7 @@ next_turn s posted (task ∷ tasks) = by_who (task_who posted s task) (next_turn
     by_who None later = later
     by_who (Some asker) later = Some (record { who = asker; agenda = record { posted = posted; tasks = task_rest task ++ tasks } })
 
+-- the two are the same
 abbrev pub same_who : Who → Who → Bool
 same_who (who.Session j) (who.Session k) = j == k
 same_who (who.Flush p) (who.Flush q) = p == q
@@ -120,5 +122,6 @@ follows_script form.Shell deck describe schedule = keeps_turns deck (opening_sta
 follows_script form.Replay deck describe schedule = keeps_turns deck (opening_state deck describe) (opening_agenda deck) schedule
 follows_script form.Run deck describe schedule = is_end_last schedule
 
+-- the schedule follows the lines of the script
 abbrev pub FollowsScript : ScriptForm → Deck → Describe → List Entry → Type 0
 FollowsScript shape deck describe schedule = follows_script shape deck describe schedule ≡ true

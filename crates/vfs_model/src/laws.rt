@@ -1,8 +1,11 @@
 //! The laws of the definitions: each function states one, and does nothing.
 
 ghost use Rattle.vfs_model.specs.ConsistencyLaws.{OpeningWorldIsConsistent, StandingMountsAreApart};
+ghost use Rattle.vfs_model.specs.DeckLaws.{ReadScriptIsInForm};
+ghost use Rattle.vfs_model.specs.DescriptorLaws.{StaysSound};
+ghost use Rattle.vfs_model.specs.ShellLaws.{AddedMappingGoesBack, DupSharesFile, LineTakesReplies, WholeLinesEnd};
 ghost use Rattle.vfs_model.specs.Laws.{RefusedStepChangesNothing, WorkerChangesNothing, CoveringMountIsLongest, RefusedWorldStaysSame, PutNodeStands, TakenNodeIsGone, NormalPathHasNormalNames, PrintedPathNamesItself, MountShowsItsTree, UnmountLeavesOtherMounts, MovedSubtreeStands, RenamedSubtreeStands, EmptyMountChangesNoNode};
-ghost use Rattle.vfs_model.specs.TranscriptLaws.{PrintedScheduleIsRead, TranscriptNeedsEachEntry, UndefinedTranscriptHasPlace, FrontHasTranscript, WholeScheduleEndsLast, ScriptSaysTurns, EachBlockShowsItsLine};
+ghost use Rattle.vfs_model.specs.TranscriptLaws.{PrintedScheduleIsRead, ReadScheduleIsPrinted, TranscriptNeedsEachEntry, UndefinedTranscriptHasPlace, FrontHasTranscript, WholeScheduleEndsLast, ScriptSaysTurns, EachBlockShowsItsLine, ShownBlocksStay, PendingStepIsWanted, ScriptGoesOn};
 
 /// A step of the namespace that is refused changes neither the namespace nor a row; Shutdown apart.
 pub fn refused_step_changes_nothing()
@@ -84,6 +87,11 @@ pub fn printed_schedule_is_read()
     ensures { PrintedScheduleIsRead }
 {}
 
+/// What is read as a schedule is a printed one, with its line feed or without it.
+pub fn read_schedule_is_printed()
+    ensures { ReadScheduleIsPrinted }
+{}
+
 /// A script has a transcript exactly where each entry of the schedule can be taken after those before it.
 pub fn transcript_needs_each_entry()
     ensures { TranscriptNeedsEachEntry }
@@ -112,4 +120,49 @@ pub fn script_says_turns()
 /// A session's blocks are those of its lines in their order, each after the lines before it.
 pub fn each_block_shows_its_line()
     ensures { EachBlockShowsItsLine }
+{}
+
+/// What a session was shown stays: more of a schedule adds blocks behind those that are there.
+pub fn shown_blocks_stay()
+    ensures { ShownBlocksStay }
+{}
+
+/// The step that a pending command asks is the one that its session wants, whatever is posted behind it.
+pub fn pending_step_is_wanted()
+    ensures { PendingStepIsWanted }
+{}
+
+/// A shell and a replay never get stuck: whoever's turn it is has a step to take, until the schedule is whole.
+pub fn script_goes_on()
+    ensures { ScriptGoesOn }
+{}
+
+/// A script that is read has its numbers in their ranges, a manifest for each rom, and no name of a rom twice.
+pub fn read_script_is_in_form()
+    ensures { ReadScriptIsInForm }
+{}
+
+/// While a line of the shell asks it has taken in all replies, and once it is finished it looks at no further one.
+pub fn line_takes_replies()
+    ensures { LineTakesReplies }
+{}
+
+/// A text that is shown in a block is empty, or its last byte is a line feed.
+pub fn whole_lines_end()
+    ensures { WholeLinesEnd }
+{}
+
+/// A descriptor made by dup leads to the same open file, and so has its place; no other descriptor changes.
+pub fn dup_shares_file()
+    ensures { DupSharesFile }
+{}
+
+/// A mapping that was added is there, and taken away again it leaves the mappings as before.
+pub fn added_mapping_goes_back()
+    ensures { AddedMappingGoesBack }
+{}
+
+/// The open files of a shell are sound at the start, and stay so: a file is open exactly where a descriptor leads to it.
+pub fn open_files_stay_sound()
+    ensures { StaysSound }
 {}
