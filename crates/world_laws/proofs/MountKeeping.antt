@@ -50,7 +50,7 @@ use Rattle.vfs_model.specs.declared.namespace.RomNode.{RomNode}
 use Rattle.vfs_model.specs.declared.namespace.RomNode.TheVariants as rom
 use Rattle.vfs_model.specs.declared.namespace.VolumeState.{VolumeState}
 use Rattle.vfs_model.specs.declared.world.World.{World}
-use Rattle.world_laws.proofs.Adding.{MayMount, one-lives, one-rest, with_one}
+use Rattle.world_laws.proofs.Adding.{MayMount, placed, one-lives, one-rest, with_one}
 use Rattle.world_laws.proofs.Agreeing.{Agrees, agrees-beside}
 use Rattle.world_laws.proofs.Binding.{Rest, rest-beside, rest-stands, some-life}
 use Rattle.world_laws.proofs.Contents.{AllDevices, DeviceFold, IsDevice, IsTree, device-content, empty-tree, kept-tree, rom-tree}
@@ -244,6 +244,40 @@ module _ (n : Namespace) (mount : Mount) (s : Stands Nothing n) (may : MayMount 
   mounted-then m name e =
       ap (list_any (λ x. same_type x.fs fs.Cell && same_bytes x.source name)) e ∙ list_any-append (λ x. same_type x.fs fs.Cell && same_bytes x.source name) (all_mounts n) (mount ∷ [])
 
+  -- a volume that is mounted was not mounted before
+  not-taken : (f : FsType) → is_taken n f mount.source ≡ false → same_type f fs.Cell ≡ true → is_mounted n fs.Cell mount.source ≡ false
+  not-taken fs.Tmp h e = absurd (cc)
+  not-taken fs.Rom h e = absurd (cc)
+  not-taken fs.Cell h e = h
+  not-taken fs.Dev h e = absurd (cc)
+
+  old-source : (place : ℕ) (d : Mount) → place < length (all_mounts n) → same_type (slice_index_or (all_mounts n) place d).fs fs.Cell ≡ true → same_type mount.fs fs.Cell ≡ true →
+      (slice_index_or (all_mounts n) place d).source ≢ mount.source
+  old-source place d l k j e =
+      let free = not-taken mount.fs taken j in
+      let none : (same_type (slice_index_or (all_mounts n) place d).fs fs.Cell && same_bytes (slice_index_or (all_mounts n) place d).source mount.source) ≡ false =
+      no-place (λ x. same_type x.fs fs.Cell && same_bytes x.source mount.source) (all_mounts n) place d free l in
+      let yes = and-both (same_type (slice_index_or (all_mounts n) place d).fs fs.Cell) (same_bytes (slice_index_or (all_mounts n) place d).source mount.source) k
+      (ap (λ w. same_bytes w mount.source) e ∙ (bytes_decides mount.source mount.source).1 refl) in
+      absurd (cc)
+
+  apart-sources : (place other : ℕ) (d : Mount) → place < length (all_mounts (with_one n mount)) → other < length (all_mounts (with_one n mount)) →
+      same_type (slice_index_or (all_mounts (with_one n mount)) place d).fs fs.Cell ≡ true → same_type (slice_index_or (all_mounts (with_one n mount)) other d).fs fs.Cell ≡ true →
+      (slice_index_or (all_mounts (with_one n mount)) place d).source ≡ (slice_index_or (all_mounts (with_one n mount)) other d).source → place ≡ other
+  apart-sources place other d l m k j e = elim (placed (all_mounts n) mount place d l).is [
+    | inl x ↦ elim (placed (all_mounts n) mount other d m).is [
+      | inl y ↦ s.boxes.sources_differ place other d x.0 y.0 (sym (ap (λ z. same_type z.fs fs.Cell) x.1) ∙ k) (sym (ap (λ z. same_type z.fs fs.Cell) y.1) ∙ j)
+          (sym (ap (λ z. z.source) x.1) ∙ e ∙ ap (λ z. z.source) y.1)
+      | inr y ↦ absurd (old-source place d x.0 (sym (ap (λ z. same_type z.fs fs.Cell) x.1) ∙ k) (sym (ap (λ z. same_type z.fs fs.Cell) y.1) ∙ j)
+          (sym (ap (λ z. z.source) x.1) ∙ e ∙ ap (λ z. z.source) y.1))
+    ]
+    | inr x ↦ elim (placed (all_mounts n) mount other d m).is [
+      | inl y ↦ absurd (old-source other d y.0 (sym (ap (λ z. same_type z.fs fs.Cell) y.1) ∙ j) (sym (ap (λ z. same_type z.fs fs.Cell) x.1) ∙ k)
+          (sym (ap (λ z. z.source) y.1) ∙ sym e ∙ ap (λ z. z.source) x.1))
+      | inr y ↦ x.0 ∙ sym y.0
+    ]
+  ]
+
   other-boxes : same_type mount.fs fs.Cell ≡ false → BoxesBut (with_one n mount)
   other-boxes h = record {
     spares = s.boxes.spares;
@@ -252,6 +286,7 @@ module _ (n : Namespace) (mount : Mount) (s : Stands Nothing n) (may : MayMount 
         ∙ sym (ap (λ b. is_mounted n fs.Cell (volume_at n u).name || ((b && same_bytes mount.source (volume_at n u).name) || false)) h)
         ∙ sym (mounted-then (with_one n mount) (volume_at n u).name refl) ∙ k);
     kept = s.boxes.kept;
+    sources_differ = apart-sources;
     named = s.boxes.named;
   }
     where
@@ -287,6 +322,7 @@ module _ (n : Namespace) (mount : Mount) (s : Stands Nothing n) (may : MayMount 
       | inl e ↦ subst (IsClosedTree is_kept_dir) (sym (kept-own u e)) empty-kept
       | inr e ↦ subst (IsClosedTree is_kept_dir) (sym (kept-other u e)) (s.boxes.kept u)
     ];
+    sources_differ = apart-sources;
     named = λ u. elim (same-or-other u (volume_named n mount.source)) [
       | inl e ↦ inl (kept-own u e)
       | inr e ↦ elim (s.boxes.named u) [
