@@ -12,7 +12,7 @@ use Rattle.vfs_model.specs.Namespace.{Tree, all_mounts}
 use Rattle.vfs_model.specs.declared.namespace.Mount.{Mount}
 use Rattle.vfs_model.specs.declared.namespace.Namespace.{Namespace}
 
-nearest-append : (path : Path) (found : Mount) (mounts : List Mount) (mount : Mount) → nearest path found (mounts ++ mount ∷ []) ≡ nearer path (nearest path found mounts) mount
+pub nearest-append : (path : Path) (found : Mount) (mounts : List Mount) (mount : Mount) → nearest path found (mounts ++ mount ∷ []) ≡ nearer path (nearest path found mounts) mount
 nearest-append path found [] mount = refl
 nearest-append path found (first ∷ mounts) mount = nearest-append path (nearer path found first) mounts mount
 
@@ -39,7 +39,7 @@ pub prefix-is : (front path : Path) → is_prefix front path ≡ true → front 
 prefix-is front path = (pointwise_decides bytes_decides front (take (length front) path)).0
 
 -- of two prefixes of a path the shorter is a prefix of the longer
-prefixes-nest : (a b q : Path) → is_prefix a q ≡ true → is_prefix b q ≡ true → length a ≤ length b → is_prefix a b ≡ true
+pub prefixes-nest : (a b q : Path) → is_prefix a q ≡ true → is_prefix b q ≡ true → length a ≤ length b → is_prefix a b ≡ true
 prefixes-nest a b q h k l =
     (pointwise_decides bytes_decides a (take (length a) b)).1
     (prefix-is a q h ∙ sym (take-of-prefix (length a) (length b) q l) ∙ ap (take (length a)) (sym (prefix-is b q k)))
@@ -55,7 +55,7 @@ nearer-new path found mount h k =
     let t : (is_prefix mount.point path && nat_lt (length found.point) (length mount.point)) ≡ true = grind arith in
     ap (λ b. if b then mount else found) t
 
-nearer-old : (path : Path) (found mount : Mount) → is_prefix mount.point path ≡ false → nearer path found mount ≡ found
+pub nearer-old : (path : Path) (found mount : Mount) → is_prefix mount.point path ≡ false → nearer path found mount ≡ found
 nearer-old path found mount h =
     let t : (is_prefix mount.point path && nat_lt (length found.point) (length mount.point)) ≡ false = grind arith in
     ap (λ b. if b then mount else found) t

@@ -3,11 +3,11 @@ use Rattle.std.specs.Prelude.{◌≡◌, ℕ, ◌+◌, ◌==◌, ◌≤◌, ◌<
 use Rattle.vfs_base.specs.declared.kinds.FsType.TheVariants as fs
 use Rattle.vfs_base.specs.declared.kinds.Kind.{Kind}
 use Rattle.vfs_model.specs.Consistency.{FoldersStand, IsClosedTree, LivesFit, ReferencesLive, RowsUsed, agrees}
-use Rattle.vfs_model.specs.Content.{is_mounted, no_rom}
+use Rattle.vfs_model.specs.Content.{is_mounted, no_rom, same_type}
 use Rattle.vfs_model.specs.FileLife.{backing_of, no_device, volume_at, volume_named}
 use Rattle.vfs_model.specs.FileStep.{is_cell}
 use Rattle.vfs_model.specs.Lookup.{is_dir_node}
-use Rattle.vfs_model.specs.Namespace.{generation_at, life_at, tree_of}
+use Rattle.vfs_model.specs.Namespace.{all_mounts, generation_at, life_at, tree_of}
 use Rattle.vfs_model.specs.ReferenceSteps.{is_device_kind}
 use Rattle.vfs_model.specs.Homes.{cell_bytes, cell_capacity, file_at}
 use Rattle.vfs_model.specs.declared.namespace.Backing.{Backing}
@@ -15,6 +15,7 @@ use Rattle.vfs_model.specs.declared.namespace.Backing.TheVariants as backing
 use Rattle.vfs_model.specs.declared.namespace.KeptNode.{KeptNode}
 use Rattle.vfs_model.specs.declared.namespace.KeptNode.TheVariants as kept
 use Rattle.vfs_model.specs.declared.namespace.LiveFile.{LiveFile}
+use Rattle.vfs_model.specs.declared.namespace.Mount.{Mount}
 use Rattle.vfs_model.specs.declared.namespace.Namespace.{Namespace}
 use Rattle.vfs_model.specs.declared.namespace.RomImage.{RomImage}
 use Rattle.vfs_model.specs.declared.namespace.RomNode.{RomNode}
@@ -74,6 +75,10 @@ pub record BoxesPlaced (n : Namespace) : Type 0 where
   pub kinds : (row : ℕ) → fits_kind (life_at n row) ≡ true
   pub mounted : (volume : ℕ) → is_mounted n fs.Cell (volume_at n volume).name ≡ true → (volume_at n volume).kept ≡ []
   pub kept : (volume : ℕ) → IsClosedTree is_kept_dir (volume_at n volume).kept
+  -- a volume is mounted once
+  pub sources_differ : (place other : ℕ) (d : Mount) → place < length (all_mounts n) → other < length (all_mounts n) →
+      same_type (slice_index_or (all_mounts n) place d).fs fs.Cell ≡ true → same_type (slice_index_or (all_mounts n) other d).fs fs.Cell ≡ true →
+      (slice_index_or (all_mounts n) place d).source ≡ (slice_index_or (all_mounts n) other d).source → place ≡ other
   -- of volumes with one name, which no description has, the first alone is ever mounted
   pub named : (volume : ℕ) → ((volume_at n volume).kept ≡ []) ⊎ (volume_named n (volume_at n volume).name ≡ volume)
 

@@ -24,6 +24,7 @@ boxes-beside n trees folders references generations boxes = record {
   kinds = boxes.kinds;
   mounted = boxes.mounted;
   kept = boxes.kept;
+  sources_differ = boxes.sources_differ;
   named = boxes.named;
 }
 

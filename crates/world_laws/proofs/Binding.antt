@@ -47,12 +47,12 @@ pub record MayBind (n : Namespace) (row : ℕ) (life : LiveFile) : Type 0 where
 abbrev pub next_generations : Namespace → ℕ → List ℕ
 next_generations n row = slice_set n.generations (row - 1) (generation_at n row + 1)
 
-some-life : (found : Option LiveFile) (P : LiveFile → Type 0) → IsSomeAnd found P → found ≢ None
+pub some-life : (found : Option LiveFile) (P : LiveFile → Type 0) → IsSomeAnd found P → found ≢ None
 some-life None P h e = h
 some-life (Some life) P h e = absurd (cc)
 
 -- files of other rows live on
-alive-bound : (n : Namespace) (row : ℕ) (found : Option LiveFile) (id : FileId) (kind : Kind) (number : ℕ) → life_at n row ≡ None →
+pub alive-bound : (n : Namespace) (row : ℕ) (found : Option LiveFile) (id : FileId) (kind : Kind) (number : ℕ) → life_at n row ≡ None →
     IsLive n id kind number → IsLive (with_life n row found (next_generations n row)) id kind number
 alive-bound n row found id kind number free live =
     let other : id.row - 1 ≢ row - 1 = λ e. some-life (life_at n id.row) _ live.life (ap (λ k. slice_index_or n.lives k None) e ∙ free) in
@@ -62,7 +62,7 @@ alive-bound n row found id kind number free live =
       life = subst (λ x. IsSomeAnd x (λ life. (life.kind ≡ kind) × (life.mount ≡ number))) (sym (set-there n.lives (row - 1) (id.row - 1) found None other)) live.life;
     }
 
-live-bound : (n : Namespace) (row : ℕ) (found : Option LiveFile) → life_at n row ≡ None → ReferencesLive n → ReferencesLive (with_life n row found (next_generations n row))
+pub live-bound : (n : Namespace) (row : ℕ) (found : Option LiveFile) → life_at n row ≡ None → ReferencesLive n → ReferencesLive (with_life n row found (next_generations n row))
 live-bound n row found free live = record {
   linked = λ number path id kind h. alive-bound n row found id kind number free (live.linked number path id kind h);
   held = λ place reference h.
@@ -82,7 +82,7 @@ used-bound n row found other l m (inr e) used h =
     only-used n row other (used other m (ap is_some (sym (set-there n.lives (row - 1) (other - 1) found None e)) ∙ h))
 
 -- how many files a cell has after a row was bound
-cells-bound : (n : Namespace) (row : ℕ) (life : LiveFile) (generations : List ℕ) (volume cell : ℕ) → row - 1 < length n.lives → life_at n row ≡ None →
+pub cells-bound : (n : Namespace) (row : ℕ) (life : LiveFile) (generations : List ℕ) (volume cell : ℕ) → row - 1 < length n.lives → life_at n row ≡ None →
     cell_files (with_life n row (Some life) generations) volume cell ≡ cell_files n volume cell + one_if (lies_on_cell volume cell life.backing)
 cells-bound n row life generations volume cell l free =
     let counted = count-set (is_backed_by (lies_on_cell volume cell)) n.lives (row - 1) (Some life) None l in
@@ -158,7 +158,7 @@ cells-taken n row life generations l free may cells (backing.Cell w d) e volume 
     ]
 
 -- devices taken
-devices-same : (n : Namespace) (row : ℕ) (life : LiveFile) (device : ℕ) → row - 1 < length n.lives → life_at n row ≡ None → lies_on_device device life.backing ≡ false →
+pub devices-same : (n : Namespace) (row : ℕ) (life : LiveFile) (device : ℕ) → row - 1 < length n.lives → life_at n row ≡ None → lies_on_device device life.backing ≡ false →
     DevicesPlaced n → device < length n.devices →
     count_by (is_backed_by (lies_on_device device)) (slice_set n.lives (row - 1) (Some life)) ≡ one_if (slice_index_or n.devices device no_device).is_out
 devices-same n row life device l free apart devices d =
@@ -175,7 +175,7 @@ out-other b n device other h = ap (λ d. d.is_out) (set-there n.devices device o
 pub out-here : (b : Bool) (n : Namespace) (device : ℕ) → device < length n.devices → (slice_index_or (with_device b n device).devices device no_device).is_out ≡ b
 out-here b n device l = ap (λ d. d.is_out) (set-here n.devices device (record (slice_index_or n.devices device no_device) { is_out = b }) no_device l)
 
-devices-taken : (n : Namespace) (row : ℕ) (life : LiveFile) (generations : List ℕ) → row - 1 < length n.lives → life_at n row ≡ None → IsFreeBacking n life.backing →
+pub devices-taken : (n : Namespace) (row : ℕ) (life : LiveFile) (generations : List ℕ) → row - 1 < length n.lives → life_at n row ≡ None → IsFreeBacking n life.backing →
     DevicesPlaced n → (b : Backing) → life.backing ≡ b → DevicesPlaced (after_taking (with_life n row (Some life) generations) b)
 devices-taken n row life generations l free may devices backing.Memory e device d =
     devices-same n row life device l free (ap (lies_on_device device) e) devices d
@@ -200,7 +200,7 @@ devices-taken n row life generations l free may devices (backing.Device one) e d
         omega (arith, bound, counts, was, is, before)
     ]
 
-but-taken : (m : Namespace) (b : Backing) → BoxesBut m → BoxesBut (after_taking m b)
+pub but-taken : (m : Namespace) (b : Backing) → BoxesBut m → BoxesBut (after_taking m b)
 but-taken m backing.Memory boxes = boxes
 but-taken m (backing.Cell volume cell) boxes = but-cell false m volume cell boxes
 but-taken m (backing.Device device) boxes = but-device true m device boxes
@@ -242,7 +242,7 @@ lives-cell b n volume cell fit row life h =
     some-and (λ mount. fits_mount n life mount ≡ true) (λ mount. fits_mount (with_cell b n volume cell) life mount ≡ true) (mount_numbered n life.mount)
     (λ mount. fits-cell b n volume cell life mount life.backing refl) (fit row life h)
 
-lives-taken : (m : Namespace) (b : Backing) → LivesFit m → LivesFit (after_taking m b)
+pub lives-taken : (m : Namespace) (b : Backing) → LivesFit m → LivesFit (after_taking m b)
 lives-taken m backing.Memory fit = fit
 lives-taken m (backing.Cell volume cell) fit = lives-cell false m volume cell fit
 lives-taken m (backing.Device device) fit = fit
@@ -286,7 +286,7 @@ rest-beside Excused n volumes devices s = record {
   };
 }
 
-rest-taken : (Excused : ℕ → Type 0) (m : Namespace) (b : Backing) → Rest Excused m → Rest Excused (after_taking m b)
+pub rest-taken : (Excused : ℕ → Type 0) (m : Namespace) (b : Backing) → Rest Excused m → Rest Excused (after_taking m b)
 rest-taken Excused m backing.Memory s = s
 rest-taken Excused m (backing.Cell volume cell) s = rest-beside Excused m (with_cell false m volume cell).volumes m.devices s
 rest-taken Excused m (backing.Device device) s = rest-beside Excused m m.volumes (with_device true m device).devices s

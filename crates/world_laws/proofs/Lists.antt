@@ -40,7 +40,7 @@ pub record AnyPlace {X : Type 0} (p : X → Bool) (xs : List X) (d : X) : Type 0
   pub within : place < length xs
   pub holds : p (slice_index_or xs place d) ≡ true
 
-any-later : {X : Type 0} (p : X → Bool) (x : X) (xs : List X) (d : X) → AnyPlace p xs d → AnyPlace p (x ∷ xs) d
+pub any-later : {X : Type 0} (p : X → Bool) (x : X) (xs : List X) (d : X) → AnyPlace p xs d → AnyPlace p (x ∷ xs) d
 any-later p x xs d found = record { place = suc found.place; within = let l = found.within in omega (arith, l); holds = found.holds }
 
 any-cons : {X : Type 0} (p : X → Bool) (x : X) (xs : List X) (d : X) (b : Bool) → p x ≡ b → (b || list_any p xs) ≡ true →
@@ -129,7 +129,7 @@ below-none p (e ∷ tree) h =
     ap (λ b. cond b (Some e.1) (value_at path_cmp p tree)) (less-is (path_cmp p e.0) (t-first _ (below_all path_cmp p tree) h))
     ∙ below-none p tree (t-second (is_lt (path_cmp p e.0)) _ h)
 
-equal-is : (o : Ordering) → is_eq o ≡ true → o ≡ Equal
+pub equal-is : (o : Ordering) → is_eq o ≡ true → o ≡ Equal
 equal-is Less h = absurd (cc)
 equal-is Equal h = refl
 equal-is Greater h = absurd (cc)
@@ -175,3 +175,27 @@ pub node-any : {X : Type 0} (test : X → Bool) (tree : List (Path × X)) (q : P
 node-any test [] q node there h = absurd (cc)
 node-any test (e ∷ tree) q node there h =
     node-at-first test e tree q node (eq_by_cmp path_cmp q e.0) there h (λ later. node-any test tree q node later h)
+
+-- a path of a tree at which a test holds
+pub record AnyKey {X : Type 0} (test : Path → Bool) (tree : List (Path × X)) : Type 0 where
+  pub path : Path
+  pub node : X
+  pub there : value_at path_cmp path tree ≡ Some node
+  pub holds : test path ≡ true
+
+key-cons : {X : Type 0} (test : Path → Bool) (e : Path × X) (tree : List (Path × X)) (b : Bool) → test e.0 ≡ b → T (is_sorted path_cmp (e ∷ tree)) →
+    (b || list_any (λ e. test e.0) tree) ≡ true → (list_any (λ e. test e.0) tree ≡ true → AnyKey test tree) → AnyKey test (e ∷ tree)
+key-cons test e tree true k sorted h later = record { path = e.0; node = e.1; there = first-there e tree; holds = k }
+key-cons test e tree false k sorted h later =
+    let found = later h in
+    record {
+      path = found.path;
+      node = found.node;
+      there = later-there e found.path found.node tree (t-first _ (is_sorted path_cmp tree) sorted) found.there (true-or-false _);
+      holds = found.holds;
+    }
+
+pub any-key : {X : Type 0} (test : Path → Bool) (tree : List (Path × X)) → T (is_sorted path_cmp tree) → list_any (λ e. test e.0) tree ≡ true → AnyKey test tree
+any-key test [] sorted h = absurd (cc)
+any-key test (e ∷ tree) sorted h =
+    key-cons test e tree (test e.0) refl sorted h (any-key test tree (t-second (below_all path_cmp e.0 tree) _ sorted))

@@ -58,7 +58,7 @@ at-front n p front rest f e =
     let c = covers-front n p front rest f e in
     ap (λ m. node_in (tree_of n m.number) (rest_of n ((covering_mount n p).point ++ front))) c.0 ∙ ap (node_in (tree_at n p)) c.1
 
-at-rest : (n : Namespace) (p : Path) → node_at n p ≡ node_in (tree_at n p) (rest_of n p)
+pub at-rest : (n : Namespace) (p : Path) → node_at n p ≡ node_in (tree_at n p) (rest_of n p)
 unfolding node_at
 at-rest n p = refl
 
@@ -80,6 +80,9 @@ absent-of n p f walk h =
 -- a path with a name is not `/` of its mount
 pub name-some : (p : Path) → (name : LastName p) → p ≢ []
 name-some p name e = not-empty name.front name.name (sym name.is ∙ e)
+
+pub prefix-itself : (q : Path) → is_prefix q q ≡ true
+prefix-itself q = subst (λ x. is_prefix q x ≡ true) (append-nil q) (prefix-append q [])
 
 -- what may come to a path: a folder, or a live file of the mount that no path names
 abbrev pub IsFresh : Namespace → ℕ → NodeKind → Type 0
@@ -151,8 +154,6 @@ module _ (Excused : ℕ → Type 0) (n : Namespace) (p : Path) (new : NodeKind) 
       let other : rest ≢ rest_of n p = λ x. let yes : is_prefix rest (rest_of n p) ≡ true = ap (is_prefix rest) (sym x) ∙ prefix-itself rest in absurd (cc) in
       (node-other rest other ∙ old, put-none (is_below rest) (rest_of n p) new (tree_at n p) (not-below rest apart) none)
     where
-      prefix-itself : (q : Path) → is_prefix q q ≡ true
-      prefix-itself q = subst (λ x. is_prefix q x ≡ true) (append-nil q) (prefix-append q [])
       not-below : (rest : Path) → is_prefix rest (rest_of n p) ≡ false → is_below rest (rest_of n p) ≡ false
       not-below rest h = ap (λ b. b && nat_lt (length rest) (length (rest_of n p))) h
       node-other : (rest : Path) → rest ≢ rest_of n p → node_in (put path_cmp (rest_of n p) new (tree_at n p)) rest ≡ node_in (tree_at n p) rest
@@ -206,3 +207,43 @@ module _ (Excused : ℕ → Type 0) (n : Namespace) (p : Path) (new : NodeKind) 
         ∙ at-put-here (rest_of n p) new (tree_at n p) ∙ ap Some e;
     is = refl;
   }
+
+  -- the row of the new file is named now, and the others as before
+  put-used : (After : ℕ → Type 0) → ((row : ℕ) → Excused row → IsUsed After (with_node n p new) row) → (row : ℕ) → IsUsed Excused n row → IsUsed After (with_node n p new) row
+  unfolding with_node
+  put-used After excuse row (inl linked) = inl (put-keeps row linked)
+  put-used After excuse row (inr (inl held)) = inr (inl held)
+  put-used After excuse row (inr (inr excused)) = excuse row excused
+
+  pub put-stands : (After : ℕ → Type 0) → node_at n p ≡ None → is_full n p ≡ false → ((row : ℕ) → Excused row → IsUsed After (with_node n p new) row) → Stands After (with_node n p new)
+  unfolding with_node
+  put-stands After h room excuse = tree-stands Excused After n (number_at n p) (put path_cmp (rest_of n p) new (tree_at n p)) (put-may h room) (λ row l k. put-used After excuse row) s
+
+-- a folder comes to an absent path
+pub folder-comes : (n : Namespace) (p : Path) → Stands Nothing n → walk_refusal n p ≡ None → node_at n p ≡ None → is_full n p ≡ false → Stands Nothing (with_node n p node.Dir)
+folder-comes n p s walk h room =
+    put-stands Nothing n p node.Dir s (absent-of n p s.folders walk h) (λ id kind e. absurd (not-file id kind e)) Nothing h room (λ row none. absurd none)
+  where
+    not-file : (id : FileId) (kind : Kind) → node.Dir ≢ node.File id kind
+    not-file id kind e = absurd (cc)
+
+kind-same : (id other : FileId) (kind like : Kind) → node.File id kind ≡ node.File other like → kind ≡ like
+kind-same id other kind like e = ap of e
+  where
+    of : NodeKind → Kind
+    of node.Dir = kind
+    of (node.File id kind) = kind
+
+-- a live file that nothing names comes to an absent path of its mount
+pub file-comes : (n : Namespace) (p : Path) (id : FileId) (kind : Kind) → Stands (Only id.row) n → walk_refusal n p ≡ None → node_at n p ≡ None → is_full n p ≡ false →
+    IsLive n id kind (number_at n p) → (Linked n id.row → Unit {0} → ⊥) → Stands Nothing (with_node n p (node.File id kind))
+file-comes n p id kind s walk h room live unlinked =
+    let absent = absent-of n p s.folders walk h in
+    put-stands (Only id.row) n p (node.File id kind) s absent fresh Nothing h room
+    (λ row e. subst (IsUsed Nothing (with_node n p (node.File id kind))) (sym e) (inl (put-new (Only id.row) n p (node.File id kind) s absent fresh id kind refl)))
+  where
+    fresh : IsFresh n (number_at n p) (node.File id kind)
+    fresh other like e =
+        let same = file-same id other kind like (ap Some e) in
+        (subst (λ x. IsLive n x like (number_at n p)) same (subst (λ x. IsLive n id x (number_at n p)) (kind-same id other kind like e) live),
+        λ linked. unlinked (subst (λ x. Linked n x.row) (sym same) linked))

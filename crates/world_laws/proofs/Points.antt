@@ -13,10 +13,10 @@ use Rattle.world_laws.proofs.Covering.{IsMount, any-default, covering-is, covers
 use Rattle.world_laws.proofs.Lists.{true-or-false}
 use Rattle.world_laws.proofs.Passing.{and-first}
 
-one-later : (x : Mount) (xs : List Mount) (found : Mount) → IsOneOf xs found → IsOneOf (x ∷ xs) found
+pub one-later : (x : Mount) (xs : List Mount) (found : Mount) → IsOneOf xs found → IsOneOf (x ∷ xs) found
 one-later x xs found (place, l, h) = (suc place, omega (arith, l), h)
 
-first-or-later : (x : Mount) (xs : List Mount) (found : Mount) → IsOneOf (x ∷ xs) found → (x ≡ found) ⊎ IsOneOf xs found
+pub first-or-later : (x : Mount) (xs : List Mount) (found : Mount) → IsOneOf (x ∷ xs) found → (x ≡ found) ⊎ IsOneOf xs found
 first-or-later x xs found (zero, l, h) = inl h
 first-or-later x xs found (suc place, l, h) = inr (place, omega (arith, l), h)
 

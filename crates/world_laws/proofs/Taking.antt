@@ -6,14 +6,15 @@ use Rattle.std.proofs.lemmas.List.Sums.{sum_by-set}
 use Rattle.std.specs.Prelude.{count_by}
 use Rattle.vfs_model.specs.Boxes.{BoxesPlaced, cell_files, fits_kind, is_backed_by, is_kept_dir, is_kept_on, lies_on_cell, lies_on_device, one_if}
 use Rattle.vfs_model.specs.Consistency.{IsClosedTree}
-use Rattle.vfs_model.specs.Content.{is_mounted}
+use Rattle.vfs_model.specs.Content.{is_mounted, same_type}
 use Rattle.vfs_model.specs.FileLife.{backing_of, no_device, no_volume, volume_at, volume_named, with_cell, with_device, with_spare_cell}
-use Rattle.vfs_model.specs.Namespace.{life_at, same_bytes}
+use Rattle.vfs_model.specs.Namespace.{all_mounts, life_at, same_bytes}
 use Rattle.vfs_base.specs.declared.kinds.FsType.TheVariants as fs
 use Rattle.vfs_model.specs.declared.namespace.Backing.{Backing}
 use Rattle.vfs_model.specs.declared.namespace.Backing.TheVariants as backing
 use Rattle.vfs_model.specs.declared.namespace.DeviceState.{DeviceState}
 use Rattle.vfs_model.specs.declared.namespace.LiveFile.{LiveFile}
+use Rattle.vfs_model.specs.declared.namespace.Mount.{Mount}
 use Rattle.vfs_model.specs.declared.namespace.Namespace.{Namespace}
 use Rattle.vfs_model.specs.declared.namespace.VolumeState.{VolumeState}
 use Rattle.world_laws.proofs.Lists.{below-or-past, number-itself, other-number, same-or-other, set-here, set-there}
@@ -40,6 +41,9 @@ pub record BoxesBut (n : Namespace) : Type 0 where
   pub kinds : (row : ℕ) → fits_kind (life_at n row) ≡ true
   pub mounted : (volume : ℕ) → is_mounted n fs.Cell (volume_at n volume).name ≡ true → (volume_at n volume).kept ≡ []
   pub kept : (volume : ℕ) → IsClosedTree is_kept_dir (volume_at n volume).kept
+  pub sources_differ : (place other : ℕ) (d : Mount) → place < length (all_mounts n) → other < length (all_mounts n) →
+      same_type (slice_index_or (all_mounts n) place d).fs fs.Cell ≡ true → same_type (slice_index_or (all_mounts n) other d).fs fs.Cell ≡ true →
+      (slice_index_or (all_mounts n) place d).source ≡ (slice_index_or (all_mounts n) other d).source → place ≡ other
   pub named : (volume : ℕ) → ((volume_at n volume).kept ≡ []) ⊎ (volume_named n (volume_at n volume).name ≡ volume)
 
 abbrev pub CellsPlaced : Namespace → Type 0
@@ -50,7 +54,7 @@ abbrev pub DevicesPlaced : Namespace → Type 0
 DevicesPlaced n = (device : ℕ) → device < length n.devices → count_by (is_backed_by (lies_on_device device)) n.lives ≡ one_if (slice_index_or n.devices device no_device).is_out
 
 pub boxes-but : (n : Namespace) → BoxesPlaced n → BoxesBut n
-boxes-but n boxes = record { spares = boxes.spares; kinds = boxes.kinds; mounted = boxes.mounted; kept = boxes.kept; named = boxes.named }
+boxes-but n boxes = record { spares = boxes.spares; kinds = boxes.kinds; mounted = boxes.mounted; kept = boxes.kept; sources_differ = boxes.sources_differ; named = boxes.named }
 
 pub boxes-all : (n : Namespace) → CellsPlaced n → DevicesPlaced n → BoxesBut n → BoxesPlaced n
 boxes-all n cells devices boxes = record {
@@ -60,6 +64,7 @@ boxes-all n cells devices boxes = record {
   kinds = boxes.kinds;
   mounted = boxes.mounted;
   kept = boxes.kept;
+  sources_differ = boxes.sources_differ;
   named = boxes.named;
 }
 
@@ -91,6 +96,7 @@ but-cell b n volume cell boxes = record {
   kinds = boxes.kinds;
   mounted = λ other h. cell-kept b n volume cell other ∙ boxes.mounted other (sym (ap (is_mounted n fs.Cell) (cell-name b n volume cell other)) ∙ h);
   kept = λ other. subst (IsClosedTree is_kept_dir) (sym (cell-kept b n volume cell other)) (boxes.kept other);
+  sources_differ = boxes.sources_differ;
   named = λ other. elim (boxes.named other) [
     | inl h ↦ inl (cell-kept b n volume cell other ∙ h)
     | inr h ↦ inr (cell-named b n volume cell _ ∙ ap (volume_named n) (cell-name b n volume cell other) ∙ h)
@@ -98,7 +104,7 @@ but-cell b n volume cell boxes = record {
 }
 
 pub but-device : (b : Bool) (n : Namespace) (device : ℕ) → BoxesBut n → BoxesBut (with_device b n device)
-but-device b n device boxes = record { spares = boxes.spares; kinds = boxes.kinds; mounted = boxes.mounted; kept = boxes.kept; named = boxes.named }
+but-device b n device boxes = record { spares = boxes.spares; kinds = boxes.kinds; mounted = boxes.mounted; kept = boxes.kept; sources_differ = boxes.sources_differ; named = boxes.named }
 
 -- a row becomes a live file, or free
 abbrev pub with_life : Namespace → ℕ → Option LiveFile → List ℕ → Namespace
@@ -110,6 +116,7 @@ but-life n row found generations fits boxes = record {
   kinds = λ other. set-at (λ life. fits_kind life ≡ true) n.lives (row - 1) (other - 1) found None (λ e. fits) (boxes.kinds other);
   mounted = boxes.mounted;
   kept = boxes.kept;
+  sources_differ = boxes.sources_differ;
   named = boxes.named;
 }
 
