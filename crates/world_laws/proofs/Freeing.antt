@@ -64,11 +64,11 @@ used-freed n row other within l m (inr e) used h =
     without (inr (inr same)) = absurd (e (ap (λ x. x - 1) same))
 
 -- a live file's backing, or nothing of a free row
-backed-by : (test : Backing → Bool) (found : Option LiveFile) → test backing.Memory ≡ false → is_backed_by test found ≡ test (backing_of found)
+pub backed-by : (test : Backing → Bool) (found : Option LiveFile) → test backing.Memory ≡ false → is_backed_by test found ≡ test (backing_of found)
 backed-by test None h = sym h
 backed-by test (Some life) h = refl
 
-cells-freed : (n : Namespace) (row volume cell : ℕ) → row - 1 < length n.lives →
+pub cells-freed : (n : Namespace) (row volume cell : ℕ) → row - 1 < length n.lives →
     cell_files (without_life n row) volume cell + one_if (lies_on_cell volume cell (backing_of (life_at n row))) ≡ cell_files n volume cell
 cells-freed n row volume cell l =
     let counted = count-set (is_backed_by (lies_on_cell volume cell)) n.lives (row - 1) None None l in
@@ -76,7 +76,7 @@ cells-freed n row volume cell l =
     ap one_if (backed-by (lies_on_cell volume cell) (life_at n row) refl) in
     omega (arith, counted, was)
 
-devices-freed : (n : Namespace) (row device : ℕ) → row - 1 < length n.lives →
+pub devices-freed : (n : Namespace) (row device : ℕ) → row - 1 < length n.lives →
     count_by (is_backed_by (lies_on_device device)) (slice_set n.lives (row - 1) None) + one_if (lies_on_device device (backing_of (life_at n row))) ≡
     count_by (is_backed_by (lies_on_device device)) n.lives
 devices-freed n row device l =

@@ -5,6 +5,7 @@ pub mod Binding
 pub mod Clear
 pub mod Contents
 pub mod Covering
+pub mod Emptying
 pub mod FileKeeping
 pub mod FileKeepingSteps
 pub mod FillAll

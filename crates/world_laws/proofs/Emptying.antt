@@ -1,0 +1,297 @@
+-- The files of a mount are freed, one row after the other.
+use Rattle.std.proofs.Common.{◌≡◌, ◌≢◌, ℕ, zero, suc, ◌+◌, ◌-◌, ◌*◌, ◌<◌, ◌≤◌, Bool, true, false, not, ◌||◌, ◌&&◌, ◌==◌, Option, Some, None, is_some, IsSomeAnd, List, [], ◌∷◌, ◌++◌, length, map, filter, fold, slice_index_or, slice_set, ◌⊎◌, inl, inr, if◌then◌else◌, refl, sym, ap, subst, ◌∙◌, arith}
+use Rattle.std.proofs.lemmas.List.{append-nil, get_or_past, length-set}
+use Rattle.std.proofs.lemmas.List.Sums.{fold-append, sum_by-cons}
+use Rattle.std.specs.FinMap.Entries.{find as value_at}
+use Rattle.std.specs.List.{list_any, enumerate_from}
+use Rattle.std.specs.Prelude.{count_by}
+use Rattle.vfs_base.specs.Path.{Path, path_cmp}
+use Rattle.vfs_base.specs.declared.ids.FileId.{FileId}
+use Rattle.vfs_base.specs.declared.kinds.Kind.{Kind}
+use Rattle.vfs_base.specs.declared.kinds.NodeKind.TheVariants as node
+use Rattle.vfs_model.specs.Boxes.{BoxesPlaced, cell_files, is_backed_by, lies_on_cell, lies_on_device, one_if}
+use Rattle.vfs_model.specs.Consistency.{IsLive, LivesFit, ReferencesLive, fits_mount, mount_numbered}
+use Rattle.vfs_model.specs.FileLife.{Rows, after_end, backing_of, end_of_unmounted, free_row, no_device, no_volume, volume_at, with_device}
+use Rattle.vfs_model.specs.Homes.{cell_capacity, change_row}
+use Rattle.vfs_model.specs.Namespace.{file_of, life_at, tree_of}
+use Rattle.vfs_model.specs.UmountSteps.{is_of_mount, rows_of_mount}
+use Rattle.vfs_model.specs.declared.namespace.Backing.{Backing}
+use Rattle.vfs_model.specs.declared.namespace.Backing.TheVariants as backing
+use Rattle.vfs_model.specs.declared.namespace.End.{End}
+use Rattle.vfs_model.specs.declared.namespace.End.TheVariants as end
+use Rattle.vfs_model.specs.declared.namespace.LiveFile.{LiveFile}
+use Rattle.vfs_model.specs.declared.namespace.Mount.{Mount}
+use Rattle.vfs_model.specs.declared.namespace.Namespace.{Namespace}
+use Rattle.vfs_model.specs.declared.namespace.Reference.{Reference}
+use Rattle.vfs_model.specs.declared.namespace.RowChange.{RowChange}
+use Rattle.vfs_model.specs.declared.namespace.RowChange.TheVariants as change
+use Rattle.vfs_model.specs.declared.world.World.{World}
+use Rattle.world_laws.proofs.Agreeing.{Agrees, Ends, agrees-ended, free-agrees}
+use Rattle.world_laws.proofs.Beside.{folders-beside}
+use Rattle.world_laws.proofs.Binding.{Rest, lives-set, out-here, out-other, rest-beside, some-life}
+use Rattle.world_laws.proofs.Freeing.{alive-freed, backed-by, cells-freed, devices-freed, without_life}
+use Rattle.world_laws.proofs.Lists.{number-itself, other-number, same-number, same-or-other, set-here, set-there, some-within}
+use Rattle.world_laws.proofs.Standing.{Held, IsUsed, Linked, LinkedIn}
+use Rattle.world_laws.proofs.Taking.{BoxesBut, CellsPlaced, DevicesPlaced, but-device, but-life, with_life}
+
+-- a row is one of the list
+abbrev pub InRows : List ℕ → ℕ → Type 0
+InRows [] row = ⊥
+InRows (r ∷ rows) row = (row ≡ r) ⊎ InRows rows row
+
+-- each row of the list is above the one
+abbrev pub AllAbove : ℕ → List ℕ → Type 0
+AllAbove row [] = Unit {0}
+AllAbove row (r ∷ rows) = (row < r) × AllAbove row rows
+
+-- rising rows of live files of the mount
+abbrev pub RowsLeft : ℕ → Namespace → List ℕ → Type 0
+RowsLeft number m [] = Unit {0}
+RowsLeft number m (r ∷ rows) = (0 < r) × (r - 1 < 1024) × (is_of_mount number (life_at m r) ≡ true) × AllAbove r rows × RowsLeft number m rows
+
+-- how many of these rows have a cell
+abbrev pub twice : Namespace → ℕ → ℕ → List ℕ → ℕ
+twice m volume cell rows = count_by (λ row. is_backed_by (lies_on_cell volume cell) (life_at m row)) rows
+
+-- a mount's files on the way to be freed
+pub record Empty (number : ℕ) (m : Namespace) (left : List ℕ) : Type 0 where
+  pub rest : Rest (InRows left) m
+  pub boxes : BoxesBut m
+  pub devices : DevicesPlaced m
+  -- its volume keeps the files already, so the cells of those that are left are counted twice
+  pub cells : (volume cell : ℕ) → volume < length m.volumes → cell < length (volume_at m volume).pages →
+      cell_files m volume cell + one_if (slice_index_or (volume_at m volume).spare cell false) ≡ 1 + twice m volume cell left
+  pub lives : (row : ℕ) (life : LiveFile) → life_at m row ≡ Some life → life.mount ≢ number → IsSomeAnd (mount_numbered m life.mount) (λ mount. fits_mount m life mount ≡ true)
+  -- each live file of the mount is left, and nothing names it
+  pub whole : (row : ℕ) (life : LiveFile) → 0 < row → life_at m row ≡ Some life → life.mount ≡ number → InRows left row
+  pub rows : RowsLeft number m left
+  pub unlinked : (row : ℕ) → InRows left row → Linked m row → Unit {0} → ⊥
+  pub unheld : (row : ℕ) → InRows left row → Held m row → Unit {0} → ⊥
+
+above-apart : (row other : ℕ) (rows : List ℕ) → AllAbove row rows → InRows rows other → other ≢ row
+above-apart row other [] above i e = absurd i
+above-apart row other (r ∷ rows) above (inl same) e = let l = above.0 in absurd (omega (arith, l, same, e))
+above-apart row other (r ∷ rows) above (inr i) e = above-apart row other rows above.1 i e
+
+-- other rows' lives after one was freed
+still-life : (m : Namespace) (row other : ℕ) → other - 1 ≢ row - 1 → life_at (without_life m row) other ≡ life_at m other
+still-life m row other h = set-there m.lives (row - 1) (other - 1) None None h
+
+rows-differ : (row other : ℕ) → 0 < row → row < other → other - 1 ≢ row - 1
+rows-differ row other l m e = omega (arith, l, m, e)
+
+still-left : (number : ℕ) (m : Namespace) (row : ℕ) (rows : List ℕ) → 0 < row → AllAbove row rows → RowsLeft number m rows → RowsLeft number (without_life m row) rows
+still-left number m row [] l above left = tt
+still-left number m row (r ∷ rows) l above left =
+    (left.0, left.1, ap (is_of_mount number) (still-life m row r (rows-differ row r l above.0)) ∙ left.2, left.3, still-left number m row rows l above.1 left.4)
+
+still-twice : (m : Namespace) (row volume cell : ℕ) (rows : List ℕ) → 0 < row → AllAbove row rows → twice (without_life m row) volume cell rows ≡ twice m volume cell rows
+still-twice m row volume cell [] l above = refl
+still-twice m row volume cell (r ∷ rows) l above =
+    let now : twice (without_life m row) volume cell (r ∷ rows) ≡ one_if (is_backed_by (lies_on_cell volume cell) (life_at (without_life m row) r)) + twice (without_life m row) volume cell rows =
+    sum_by-cons (λ x. one_if (is_backed_by (lies_on_cell volume cell) (life_at (without_life m row) x))) r rows in
+    let before : twice m volume cell (r ∷ rows) ≡ one_if (is_backed_by (lies_on_cell volume cell) (life_at m r)) + twice m volume cell rows =
+    sum_by-cons (λ x. one_if (is_backed_by (lies_on_cell volume cell) (life_at m x))) r rows in
+    let same = ap (λ x. one_if (is_backed_by (lies_on_cell volume cell) x)) (still-life m row r (rows-differ row r l above.0)) in
+    let later = still-twice m row volume cell rows l above.1 in
+    omega (arith, now, before, same, later)
+
+ended-twice : (m : Namespace) (b : Backing) (volume cell : ℕ) (rows : List ℕ) → twice (after_end m (end_of_unmounted b)) volume cell rows ≡ twice m volume cell rows
+ended-twice m backing.Memory volume cell rows = refl
+ended-twice m (backing.Cell v c) volume cell rows = refl
+ended-twice m (backing.Device device) volume cell rows = refl
+
+ended-cells : (m : Namespace) (b : Backing) (volume cell : ℕ) →
+    (cell_files (after_end m (end_of_unmounted b)) volume cell ≡ cell_files m volume cell) × ((after_end m (end_of_unmounted b)).volumes ≡ m.volumes)
+ended-cells m backing.Memory volume cell = (refl, refl)
+ended-cells m (backing.Cell v c) volume cell = (refl, refl)
+ended-cells m (backing.Device device) volume cell = (refl, refl)
+
+rest-ended : (Excused : ℕ → Type 0) (m : Namespace) (b : Backing) → Rest Excused m → Rest Excused (after_end m (end_of_unmounted b))
+rest-ended Excused m backing.Memory s = s
+rest-ended Excused m (backing.Cell v c) s = s
+rest-ended Excused m (backing.Device device) s = rest-beside Excused m m.volumes (with_device false m device).devices s
+
+but-ended : (m : Namespace) (b : Backing) → BoxesBut m → BoxesBut (after_end m (end_of_unmounted b))
+but-ended m backing.Memory boxes = boxes
+but-ended m (backing.Cell v c) boxes = boxes
+but-ended m (backing.Device device) boxes = but-device false m device boxes
+
+at-most : (b : Bool) → one_if b ≤ 1
+at-most true = omega arith
+at-most false = omega arith
+
+devices-ended : (n : Namespace) (row : ℕ) → row - 1 < length n.lives → DevicesPlaced n → (b : Backing) → backing_of (life_at n row) ≡ b → DevicesPlaced (after_end (without_life n row) (end_of_unmounted b))
+devices-ended n row l devices backing.Memory e device d =
+    let freed = devices-freed n row device l in
+    let none : one_if (lies_on_device device (backing_of (life_at n row))) ≡ 0 = ap (λ x. one_if (lies_on_device device x)) e in
+    let before = devices device d in
+    omega (arith, freed, none, before)
+devices-ended n row l devices (backing.Cell v c) e device d =
+    let freed = devices-freed n row device l in
+    let none : one_if (lies_on_device device (backing_of (life_at n row))) ≡ 0 = ap (λ x. one_if (lies_on_device device x)) e in
+    let before = devices device d in
+    omega (arith, freed, none, before)
+devices-ended n row l devices (backing.Device one) e device d =
+    let m = without_life n row in
+    let within : device < length n.devices = subst (λ x. device < x) (length-set n.devices one _) d in
+    let freed = devices-freed n row device l in
+    let before = devices device within in
+    elim (same-or-other device one) [
+      | inr h ↦
+        let none : one_if (lies_on_device device (backing_of (life_at n row))) ≡ 0 = ap (λ x. one_if (lies_on_device device x)) e ∙ ap one_if (other-number one device (λ f. h (sym f))) in
+        let same = ap one_if (out-other false m one device h) in
+        omega (arith, freed, none, before, same)
+      | inl h ↦
+        let counts : one_if (lies_on_device device (backing_of (life_at n row))) ≡ 1 =
+        ap (λ x. one_if (lies_on_device device x)) (e ∙ ap backing.Device (sym h)) ∙ ap one_if (number-itself device) in
+        let is : one_if (slice_index_or (with_device false m one).devices device no_device).is_out ≡ 0 =
+        ap (λ x. one_if (slice_index_or (with_device false m x).devices device no_device).is_out) (sym h) ∙ ap one_if (out-here false m device within) in
+        let most : one_if (slice_index_or n.devices device no_device).is_out ≤ 1 = at-most (slice_index_or n.devices device no_device).is_out in
+        omega (arith, freed, counts, is, before, most)
+    ]
+
+ended-same : (m : Namespace) (b : Backing) → ((after_end m (end_of_unmounted b)).lives ≡ m.lives) × ((after_end m (end_of_unmounted b)).trees ≡ m.trees)
+    × ((after_end m (end_of_unmounted b)).references ≡ m.references) × ((after_end m (end_of_unmounted b)).root ≡ m.root) × ((after_end m (end_of_unmounted b)).mounts ≡ m.mounts)
+ended-same m backing.Memory = (refl, refl, refl, refl, refl)
+ended-same m (backing.Cell v c) = (refl, refl, refl, refl, refl)
+ended-same m (backing.Device device) = (refl, refl, refl, refl, refl)
+
+used-left : (m : Namespace) (row other : ℕ) (rows : List ℕ) → row - 1 < length m.lives → 0 < row → 0 < other → (other - 1 ≡ row - 1) ⊎ (other - 1 ≢ row - 1) →
+    ((at : ℕ) → 0 < at → is_some (life_at m at) ≡ true → IsUsed (InRows (row ∷ rows)) m at) →
+    is_some (slice_index_or (slice_set m.lives (row - 1) None) (other - 1) None) ≡ true → IsUsed (InRows rows) (without_life m row) other
+used-left m row other rows within l k (inl e) used h =
+    let none : is_some (slice_index_or (slice_set m.lives (row - 1) None) (other - 1) None) ≡ false =
+    ap (λ x. is_some (slice_index_or (slice_set m.lives (row - 1) None) x None)) e ∙ ap is_some (set-here m.lives (row - 1) None None within) in
+    absurd (cc)
+used-left m row other rows within l k (inr e) used h = fewer (used other k (ap is_some (sym (set-there m.lives (row - 1) (other - 1) None None e)) ∙ h))
+  where
+    fewer : IsUsed (InRows (row ∷ rows)) m other → IsUsed (InRows rows) (without_life m row) other
+    fewer (inl linked) = inl linked
+    fewer (inr (inl held)) = inr (inl held)
+    fewer (inr (inr (inl same))) = absurd (e (ap (λ x. x - 1) same))
+    fewer (inr (inr (inr later))) = inr (inr later)
+
+of-mount : (number : ℕ) (found : Option LiveFile) → is_of_mount number found ≡ true → (life : LiveFile) × (found ≡ Some life) × (life.mount ≡ number)
+of-mount number None h = absurd (cc)
+of-mount number (Some life) h = (life, refl, same-number life.mount number h)
+
+lives-beside-end : (m : Namespace) (number : ℕ) (b : Backing) →
+    ((row : ℕ) (life : LiveFile) → life_at m row ≡ Some life → life.mount ≢ number → IsSomeAnd (mount_numbered m life.mount) (λ mount. fits_mount m life mount ≡ true)) →
+    (row : ℕ) (life : LiveFile) → life_at (after_end m (end_of_unmounted b)) row ≡ Some life → life.mount ≢ number →
+    IsSomeAnd (mount_numbered (after_end m (end_of_unmounted b)) life.mount) (λ mount. fits_mount (after_end m (end_of_unmounted b)) life mount ≡ true)
+lives-beside-end m number backing.Memory fit = fit
+lives-beside-end m number (backing.Cell v c) fit = fit
+lives-beside-end m number (backing.Device device) fit = fit
+
+rows-left-beside : (number : ℕ) (m : Namespace) (b : Backing) (rows : List ℕ) → RowsLeft number m rows → RowsLeft number (after_end m (end_of_unmounted b)) rows
+rows-left-beside number m b [] left = tt
+rows-left-beside number m b (r ∷ rows) left =
+    (left.0, left.1, ap (λ lives. is_of_mount number (slice_index_or lives (r - 1) None)) (ended-same m b).0 ∙ left.2, left.3, rows-left-beside number m b rows left.4)
+
+-- one row is freed
+pub empty-one : (number : ℕ) (m : Namespace) (row : ℕ) (rows : List ℕ) (changes : List RowChange) → Empty number m (row ∷ rows) →
+    Empty number (free_row end_of_unmounted (record { next = m; changes = changes }) row).next rows
+unfolding free_row
+empty-one number m row rows changes f =
+    let left = f.rows in
+    let b = backing_of (life_at m row) in
+    let t = without_life m row in
+    let within : row - 1 < length m.lives = subst (λ x. row - 1 < x) (sym f.rest.sizes.lives) left.1 in
+    let same = ended-same t b in
+    record {
+      rest = rest-ended (InRows rows) t b (record {
+        live = record {
+          linked = λ at path id kind h.
+              let alive = f.rest.live.linked at path id kind h in
+              alive-freed m row id kind at (apart row id.row left.0 alive.row (λ e. f.unlinked row (inl refl) (record { number = at; path = path; id = id; kind = kind; there = h; is = e }) tt)) alive;
+          held = λ place reference h.
+              let good = f.rest.live.held place reference h in
+              (alive-freed m row reference.file reference.kind reference.mount
+                (apart row reference.file.row left.0 good.0.row (λ e. f.unheld row (inl refl) (record { place = place; reference = reference; there = h; is = e }) tt)) good.0, good.1);
+        };
+        used = λ other l h. used-left m row other rows within left.0 l (same-or-other (other - 1) (row - 1)) f.rest.used h;
+        alone = f.rest.alone;
+        folders = folders-beside m (slice_set m.lives (row - 1) None) m.generations m.references m.volumes m.devices f.rest.folders;
+        trees = f.rest.trees;
+        roms = f.rest.roms;
+        sizes = record {
+          lives = length-set m.lives (row - 1) None ∙ f.rest.sizes.lives;
+          generations = f.rest.sizes.generations;
+          trees = f.rest.sizes.trees;
+          folders = f.rest.sizes.folders;
+          mounts = f.rest.sizes.mounts;
+          references = f.rest.sizes.references;
+        };
+      });
+      boxes = but-ended t b (but-life m row None m.generations refl f.boxes);
+      devices = devices-ended m row within f.devices b refl;
+      cells = λ volume cell v c.
+          let alike = ended-cells t b volume cell in
+          let before = f.cells volume cell (subst (λ vs. volume < length vs) alike.1 v) (subst (λ vs. cell < length (slice_index_or vs volume no_volume).pages) alike.1 c) in
+          let freed = cells-freed m row volume cell within in
+          let one : twice m volume cell (row ∷ rows) ≡ one_if (is_backed_by (lies_on_cell volume cell) (life_at m row)) + twice m volume cell rows =
+          sum_by-cons (λ x. one_if (is_backed_by (lies_on_cell volume cell) (life_at m x))) row rows in
+          let backed = ap one_if (backed-by (lies_on_cell volume cell) (life_at m row) refl) in
+          let later = ended-twice t b volume cell rows in
+          let still = still-twice m row volume cell rows left.0 left.3 in
+          let spare = ap (λ vs. one_if (slice_index_or (slice_index_or vs volume no_volume).spare cell false)) alike.1 in
+          let files = alike.0 in
+          omega (arith, before, freed, one, backed, later, still, spare, files);
+      lives = lives-beside-end t number b (λ other life h apart. lives-before other life h apart (same-or-other (other - 1) (row - 1)));
+      whole = λ other life l h e. whole-left other life l (subst (λ lives. slice_index_or lives (other - 1) None ≡ Some life) same.0 h) e (same-or-other (other - 1) (row - 1));
+      rows = rows-left-beside number t b rows (still-left number m row rows left.0 left.3 left.4);
+      unlinked = λ other i linked u. f.unlinked other (inr i) (subst (λ trees. LinkedIn trees other) same.1 linked) tt;
+      unheld = λ other i held u. f.unheld other (inr i) (record { place = held.place; reference = held.reference; there = subst (λ references. slice_index_or references held.place None ≡ Some held.reference) same.2 held.there; is = held.is }) tt;
+    }
+  where
+    apart : (row other : ℕ) → 0 < row → 0 < other → (other ≡ row → ⊥) → other - 1 ≢ row - 1
+    apart row other l k h e = h (omega (arith, l, k, e))
+    gone : (other : ℕ) (life : LiveFile) → other - 1 ≡ row - 1 → slice_index_or (slice_set m.lives (row - 1) None) (other - 1) None ≢ Some life
+    gone other life e h =
+        let none : slice_index_or (slice_set m.lives (row - 1) None) (other - 1) None ≡ None =
+        ap (λ x. slice_index_or (slice_set m.lives (row - 1) None) x None) e ∙ set-here m.lives (row - 1) None None (subst (λ x. row - 1 < x) (sym f.rest.sizes.lives) f.rows.1) in
+        absurd (cc)
+    lives-before : (other : ℕ) (life : LiveFile) → slice_index_or (slice_set m.lives (row - 1) None) (other - 1) None ≡ Some life → life.mount ≢ number → (other - 1 ≡ row - 1) ⊎ (other - 1 ≢ row - 1) →
+        IsSomeAnd (mount_numbered m life.mount) (λ mount. fits_mount m life mount ≡ true)
+    lives-before other life h away (inl e) = absurd (gone other life e h)
+    lives-before other life h away (inr e) = f.lives other life (sym (set-there m.lives (row - 1) (other - 1) None None e) ∙ h) away
+    whole-left : (other : ℕ) (life : LiveFile) → 0 < other → slice_index_or (slice_set m.lives (row - 1) None) (other - 1) None ≡ Some life → life.mount ≡ number → (other - 1 ≡ row - 1) ⊎ (other - 1 ≢ row - 1) → InRows rows other
+    whole-left other life l h e (inl k) = absurd (gone other life k h)
+    whole-left other life l h e (inr k) = later (f.whole other life l (sym (set-there m.lives (row - 1) (other - 1) None None k) ∙ h) e)
+      where
+        later : InRows (row ∷ rows) other → InRows rows other
+        later (inl same) = absurd (k (ap (λ x. x - 1) same))
+        later (inr i) = i
+
+unmounted-ends : (b : Backing) → Ends b (end_of_unmounted b)
+unmounted-ends backing.Memory = tt
+unmounted-ends (backing.Cell volume cell) = refl
+unmounted-ends (backing.Device device) = tt
+
+ended-pages : (m : Namespace) (b : Backing) (volume cell : ℕ) → cell_capacity (after_end m (end_of_unmounted b)) volume cell ≡ cell_capacity m volume cell
+ended-pages m backing.Memory volume cell = refl
+ended-pages m (backing.Cell v c) volume cell = refl
+ended-pages m (backing.Device device) volume cell = refl
+
+-- all rows are freed
+pub record Emptied (number : ℕ) (m : Namespace) (left : List ℕ) (changes : List RowChange) : Type 0 where
+  pub empty : Empty number (fold (free_row end_of_unmounted) (record { next = m; changes = changes }) left).next []
+  pub pages : (volume cell : ℕ) → cell_capacity (fold (free_row end_of_unmounted) (record { next = m; changes = changes }) left).next volume cell ≡ cell_capacity m volume cell
+  pub files : (v : World) → Agrees (fold change_row v changes) m → Agrees (fold change_row v (fold (free_row end_of_unmounted) (record { next = m; changes = changes }) left).changes)
+      (fold (free_row end_of_unmounted) (record { next = m; changes = changes }) left).next
+
+pub empty-all : (left : List ℕ) (number : ℕ) (m : Namespace) (changes : List RowChange) → Empty number m left → Emptied number m left changes
+unfolding free_row
+empty-all [] number m changes f = record { empty = f; pages = λ volume cell. refl; files = λ v a. a }
+empty-all (row ∷ rows) number m changes f =
+    let b = backing_of (life_at m row) in
+    let next = after_end (without_life m row) (end_of_unmounted b) in
+    let freed = changes ++ change.Free (file_of m row) (end_of_unmounted b) ∷ [] in
+    let later = empty-all rows number next freed (empty-one number m row rows changes f) in
+    record {
+      empty = later.empty;
+      pages = λ volume cell. later.pages volume cell ∙ ended-pages (without_life m row) b volume cell;
+      files = λ v a. later.files v (subst (λ w. Agrees w next) (sym (fold-append change_row v changes (change.Free (file_of m row) (end_of_unmounted b) ∷ [])))
+          (agrees-ended _ (without_life m row) (end_of_unmounted b) (free-agrees (fold change_row v changes) m row (end_of_unmounted b) f.rows.1 f.rest.sizes.lives (unmounted-ends b) a)));
+    }
