@@ -14,6 +14,7 @@ pub mod FreeRows
 pub mod Freeing
 pub mod Growing
 pub mod Keeping
+pub mod Leaving
 pub mod Lists
 pub mod MountEnd
 pub mod MountKeeping

@@ -115,15 +115,15 @@ less-is Less p = refl
 less-is Equal p = absurd p
 less-is Greater p = absurd p
 
-t-first : (a b : Bool) → T (a && b) → T a
+pub t-first : (a b : Bool) → T (a && b) → T a
 t-first true b h = tt
 t-first false b h = absurd h
 
-t-second : (a b : Bool) → T (a && b) → T b
+pub t-second : (a b : Bool) → T (a && b) → T b
 t-second true b h = h
 t-second false b h = absurd h
 
-below-none : {X : Type 0} (p : Path) (tree : List (Path × X)) → T (below_all path_cmp p tree) → value_at path_cmp p tree ≡ None
+pub below-none : {X : Type 0} (p : Path) (tree : List (Path × X)) → T (below_all path_cmp p tree) → value_at path_cmp p tree ≡ None
 below-none p [] h = refl
 below-none p (e ∷ tree) h =
     ap (λ b. cond b (Some e.1) (value_at path_cmp p tree)) (less-is (path_cmp p e.0) (t-first _ (below_all path_cmp p tree) h))
@@ -135,7 +135,7 @@ equal-is Equal h = refl
 equal-is Greater h = absurd (cc)
 
 -- a path that stands behind the first one of a tree in order is another one
-later-there : {X : Type 0} (e : Path × X) (q : Path) (node : X) (tree : List (Path × X)) → T (below_all path_cmp e.0 tree) → value_at path_cmp q tree ≡ Some node →
+pub later-there : {X : Type 0} (e : Path × X) (q : Path) (node : X) (tree : List (Path × X)) → T (below_all path_cmp e.0 tree) → value_at path_cmp q tree ≡ Some node →
     (eq_by_cmp path_cmp q e.0 ≡ true) ⊎ (eq_by_cmp path_cmp q e.0 ≡ false) → value_at path_cmp q (e ∷ tree) ≡ Some node
 later-there e q node tree h there (inl b) =
     let same : q ≡ e.0 = path_cmp_exact q e.0 (equal-is (path_cmp q e.0) b) in
@@ -143,7 +143,7 @@ later-there e q node tree h there (inl b) =
     absurd (cc)
 later-there e q node tree h there (inr b) = ap (λ b. cond b (Some e.1) (value_at path_cmp q tree)) b ∙ there
 
-first-there : {X : Type 0} (e : Path × X) (tree : List (Path × X)) → value_at path_cmp e.0 (e ∷ tree) ≡ Some e.1
+pub first-there : {X : Type 0} (e : Path × X) (tree : List (Path × X)) → value_at path_cmp e.0 (e ∷ tree) ≡ Some e.1
 first-there e tree = ap (λ o. cond (is_eq o) (Some e.1) (value_at path_cmp e.0 tree)) (tied_itself path_cmp_total e.0)
 
 node-cons : {X : Type 0} (test : X → Bool) (e : Path × X) (tree : List (Path × X)) (b : Bool) → test e.1 ≡ b → T (is_sorted path_cmp (e ∷ tree)) →
