@@ -172,7 +172,7 @@ used-left m row other rows within l k (inr e) used h = fewer (used other k (ap i
     fewer (inr (inr (inl same))) = absurd (e (ap (λ x. x - 1) same))
     fewer (inr (inr (inr later))) = inr (inr later)
 
-of-mount : (number : ℕ) (found : Option LiveFile) → is_of_mount number found ≡ true → (life : LiveFile) × (found ≡ Some life) × (life.mount ≡ number)
+pub of-mount : (number : ℕ) (found : Option LiveFile) → is_of_mount number found ≡ true → (life : LiveFile) × (found ≡ Some life) × (life.mount ≡ number)
 of-mount number None h = absurd (cc)
 of-mount number (Some life) h = (life, refl, same-number life.mount number h)
 

@@ -31,4 +31,5 @@ pub mod Standing
 pub mod Taking
 pub mod TreeMoves
 pub mod TreeParts
+pub mod Unmounting
 pub mod WorldKeeping
