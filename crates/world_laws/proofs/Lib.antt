@@ -33,3 +33,4 @@ pub mod TreeMoves
 pub mod TreeParts
 pub mod Unmounting
 pub mod WorldKeeping
+pub mod Vacating
