@@ -107,7 +107,7 @@ module _ (roms : List RomImage) (describe : Describe) where
   folders-stand = record {
     folders = λ k. ap (is_folder (opening_namespace roms describe)) (at-root k);
     short = λ k. rw (at-root k) (omega arith);
-    root = (refl, refl);
+    root = (refl, refl, refl);
     points = λ place d l. absurd (omega arith);
     points_differ = λ place other d l m e. omega arith;
     numbers_differ = λ place other d l m e. omega arith;

@@ -4,6 +4,7 @@ use Rattle.std.specs.FinMap.Entries.{find as value_at, is_sorted}
 use Rattle.std.specs.List.{list_any}
 use Rattle.vfs_base.specs.Path.{Path, path_cmp, printed}
 use Rattle.vfs_base.specs.declared.ids.FileId.{FileId}
+use Rattle.vfs_base.specs.declared.kinds.FsType.TheVariants as fs
 use Rattle.vfs_base.specs.declared.kinds.Kind.{Kind}
 use Rattle.vfs_base.specs.declared.kinds.Kind.TheVariants as kind
 use Rattle.vfs_base.specs.declared.kinds.NodeKind.TheVariants as node
@@ -76,11 +77,11 @@ stands_on_folder n point =
     (node_in (tree_of n mount.number) rest ≡ Some node.Dir)
     × (list_any (λ entry. is_below rest entry.0) (tree_of n mount.number) ≡ false)
 
--- each working directory and each point is a folder, and mounts have different points and numbers
+-- each working directory and each point is a folder, mounts have different points and numbers, and `/` lies in memory
 pub record FoldersStand (n : Namespace) : Type 0 where
   pub folders : (k : ℕ) → is_folder n (folder_of n k) ≡ true
   pub short : (k : ℕ) → length (printed (folder_of n k)) ≤ 1024
-  pub root : (n.root.point ≡ []) × (n.root.number ≡ 0)
+  pub root : (n.root.point ≡ []) × (n.root.number ≡ 0) × (n.root.fs ≡ fs.Tmp)
   pub points : (place : ℕ) (d : Mount) → place < length n.mounts → stands_on_folder n (slice_index_or n.mounts place d).point
   pub points_differ : (place other : ℕ) (d : Mount) → place < length (all_mounts n) → other < length (all_mounts n) →
       (slice_index_or (all_mounts n) place d).point ≡ (slice_index_or (all_mounts n) other d).point → place ≡ other

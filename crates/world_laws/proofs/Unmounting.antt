@@ -231,7 +231,7 @@ module _ (n : Namespace) (mount : Mount) (s : Stands Nothing n) (may : MayLeave 
         let same : folder_of (left_by n mount f) k ≡ folder_of n k = ap (λ folders. slice_index_or folders (k - 1) []) (left-same f).3 in
         ap (is_folder (left_by n mount f)) same ∙ ap is_dir_node (left-node f (folder_of n k) ∙ unmounted-leaves n mount.number (folder_of n k) may.other (may.away k)) ∙ s.folders.folders k;
     short = λ k. subst (λ folders. length (printed (slice_index_or folders (k - 1) [])) ≤ 1024) (sym (left-same f).3) (s.folders.short k);
-    root = subst (λ r. (r.point ≡ []) × (r.number ≡ 0)) (sym (left-same f).6) s.folders.root;
+    root = subst (λ r. (r.point ≡ []) × (r.number ≡ 0) × (r.fs ≡ fs.Tmp)) (sym (left-same f).6) s.folders.root;
     points = left-points f;
     points_differ = differ-left f (λ m. m.point) s.folders.points_differ;
     numbers_differ = differ-left f (λ m. m.number) s.folders.numbers_differ;
