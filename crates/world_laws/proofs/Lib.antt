@@ -34,3 +34,4 @@ pub mod TreeParts
 pub mod Unmounting
 pub mod WorldKeeping
 pub mod Vacating
+pub mod MountRemoval
