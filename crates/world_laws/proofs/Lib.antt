@@ -35,3 +35,4 @@ pub mod Unmounting
 pub mod WorldKeeping
 pub mod Vacating
 pub mod MountRemoval
+pub mod UmountKeeping
