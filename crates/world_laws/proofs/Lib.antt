@@ -36,3 +36,4 @@ pub mod WorldKeeping
 pub mod Vacating
 pub mod MountRemoval
 pub mod UmountKeeping
+pub mod MkfsKeeping

@@ -99,10 +99,23 @@ one-row number m p (r ∷ rows) left one = by (p r) refl (one-row number m p row
         omega (arith, sum, first, later)
 
 -- what lies on a cell
-on-cell : (volume cell : ℕ) (b : Backing) → lies_on_cell volume cell b ≡ true → b ≡ backing.Cell volume cell
+pub on-cell : (volume cell : ℕ) (b : Backing) → lies_on_cell volume cell b ≡ true → b ≡ backing.Cell volume cell
 on-cell volume cell backing.Memory h = absurd (cc)
 on-cell volume cell (backing.Device device) h = absurd (cc)
 on-cell volume cell (backing.Cell v c) h = ap (λ x. backing.Cell x c) (same-number v volume (and-first (v == volume) (c == cell) h)) ∙ ap (backing.Cell volume) (same-number c cell (and-second (v == volume) (c == cell) h))
+
+-- a file on a cell is one of a mount of a volume
+pub cell-kind-is : (life : LiveFile) (volume cell : ℕ) (f : FsType) → life.backing ≡ backing.Cell volume cell → fits_kind (Some life) ≡ true → same_kind life.kind (kind_of f) ≡ true → f ≡ fs.Cell
+cell-kind-is life volume cell f e kinds fits = by life.kind f (subst (λ b. fits_kind (Some (record life { backing = b })) ≡ true) e kinds) fits
+  where
+    by : (k : Kind) (t : FsType) → is_cell k ≡ true → same_kind k (kind_of t) ≡ true → t ≡ fs.Cell
+    by kind.Tmp t h same = absurd (cc)
+    by kind.Rom t h same = absurd (cc)
+    by kind.Chr t h same = absurd (cc)
+    by kind.Cell fs.Cell h same = refl
+    by kind.Cell fs.Tmp h same = absurd (cc)
+    by kind.Cell fs.Rom h same = absurd (cc)
+    by kind.Cell fs.Dev h same = absurd (cc)
 
 module _ (n : Namespace) (mount : Mount) (s : Stands Nothing n) (may : MayLeave n mount) where
   some-fits : (found : Option Mount) (life : LiveFile) → found ≡ Some mount → IsSomeAnd found (λ m. fits_mount n life m ≡ true) → fits_mount n life mount ≡ true
@@ -239,20 +252,6 @@ module _ (n : Namespace) (mount : Mount) (s : Stands Nothing n) (may : MayLeave 
         ]
       ]
 
-  -- a file on a cell is one of a mount of a volume
-  on-cell-mount : (life : LiveFile) (volume cell : ℕ) → life.backing ≡ backing.Cell volume cell → fits_kind (Some life) ≡ true → fits_mount n life mount ≡ true → mount.fs ≡ fs.Cell
-  on-cell-mount life volume cell e kinds fits =
-      by life.kind mount.fs (subst (λ b. fits_kind (Some (record life { backing = b })) ≡ true) e kinds) (and-first (same_kind life.kind (kind_of mount.fs)) _ fits)
-    where
-      by : (k : Kind) (t : FsType) → is_cell k ≡ true → same_kind k (kind_of t) ≡ true → t ≡ fs.Cell
-      by kind.Tmp t h same = absurd (cc)
-      by kind.Rom t h same = absurd (cc)
-      by kind.Chr t h same = absurd (cc)
-      by kind.Cell fs.Cell h same = refl
-      by kind.Cell fs.Tmp h same = absurd (cc)
-      by kind.Cell fs.Rom h same = absurd (cc)
-      by kind.Cell fs.Dev h same = absurd (cc)
-
   no-cells : mount.fs ≢ fs.Cell → (volume cell : ℕ) → twice n volume cell (rows_of_mount n mount.number) ≡ 0
   no-cells h volume cell =
       no-rows (λ row. is_backed_by (lies_on_cell volume cell) (life_at n row)) (rows_of_mount n mount.number)
@@ -261,7 +260,7 @@ module _ (n : Namespace) (mount : Mount) (s : Stands Nothing n) (may : MayLeave 
         | inl k ↦
           let life = row-life n mount s may row i in
           let on = on-cell volume cell life.0.backing (sym (ap (is_backed_by (lies_on_cell volume cell)) life.1) ∙ k) in
-          absurd (h (on-cell-mount life.0 volume cell on (sym (ap fits_kind life.1) ∙ s.boxes.kinds row) (own-fits row life.0 life.1 life.2)))
+          absurd (h (cell-kind-is life.0 volume cell mount.fs on (sym (ap fits_kind life.1) ∙ s.boxes.kinds row) (and-first (same_kind life.0.kind (kind_of mount.fs)) _ (own-fits row life.0 life.1 life.2))))
       ])
 
   is-mounted : mount.fs ≡ fs.Cell → is_mounted n fs.Cell mount.source ≡ true
