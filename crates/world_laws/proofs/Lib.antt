@@ -37,3 +37,4 @@ pub mod Vacating
 pub mod MountRemoval
 pub mod UmountKeeping
 pub mod MkfsKeeping
+pub mod RootRemoval
