@@ -38,3 +38,4 @@ pub mod MountRemoval
 pub mod UmountKeeping
 pub mod MkfsKeeping
 pub mod RootRemoval
+pub mod ShutdownKeeping
