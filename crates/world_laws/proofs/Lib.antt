@@ -39,3 +39,4 @@ pub mod UmountKeeping
 pub mod MkfsKeeping
 pub mod RootRemoval
 pub mod ShutdownKeeping
+pub mod StepKeeping

@@ -31,13 +31,13 @@ use Rattle.world_laws.proofs.Removing.{MayGo, file-gone, folder-gone}
 use Rattle.world_laws.proofs.Standing.{Nothing, Only, Stands}
 use Rattle.world_laws.proofs.TreeParts.{at-node, not-empty}
 
-stat-kept : (n : Namespace) (k : ℕ) (text : List ℕ) → Stands Nothing n → Kept n (stat_step n k text)
+pub stat-kept : (n : Namespace) (k : ℕ) (text : List ℕ) → Stands Nothing n → Kept n (stat_step n k text)
 stat-kept n k text s =
     bind-kept n (asked_path n k text) _ (λ path e.
     then-kept n (refuse_by (walk_refusal n path)) _ (λ walk.
     wanted-kept n errno.ENOENT (node_at n path) _ (λ there h. same-kept n s)))
 
-list-kept : (n : Namespace) (k : ℕ) (text : List ℕ) → Stands Nothing n → Kept n (list_step n k text)
+pub list-kept : (n : Namespace) (k : ℕ) (text : List ℕ) → Stands Nothing n → Kept n (list_step n k text)
 list-kept n k text s = bind-kept n (asked_path n k text) _ (λ path e. then-kept n (folder_refusals n path) _ (λ h. same-kept n s))
 
 abbrev path-or : Path → Result Path TextFault → Path
@@ -77,7 +77,7 @@ folder-is n path h =
     there-folder (node_at n path) (refuse-passed errno.ENOENT (not (is_there n path)) (then-first (refuse errno.ENOENT when (not (is_there n path))) _ tt r))
     (refuse-passed errno.ENOTDIR (is_file n path) (then-rest (refuse errno.ENOENT when (not (is_there n path))) _ tt r))
 
-chdir-kept : (n : Namespace) (k : ℕ) (text : List ℕ) → Stands Nothing n → Kept n (chdir_step n k text)
+pub chdir-kept : (n : Namespace) (k : ℕ) (text : List ℕ) → Stands Nothing n → Kept n (chdir_step n k text)
 chdir-kept n k text s =
     bind-kept n (asked_path n k text) _ (λ path e.
     then-kept n (folder_refusals n path) _ (λ h.
@@ -92,10 +92,10 @@ root-folder n f =
     no-rest [] e = sym e
     no-rest (name ∷ point) e = absurd (cc)
 
-home-kept : (n : Namespace) (k : ℕ) → Stands Nothing n → Kept n (home_step n k)
+pub home-kept : (n : Namespace) (k : ℕ) → Stands Nothing n → Kept n (home_step n k)
 home-kept n k s = names-kept n (with_folder_of n k []) (folder-stands Nothing n k [] (ap is_dir_node (root-folder n s.folders)) (omega arith) s) refl refl refl
 
-mkdir-kept : (n : Namespace) (k : ℕ) (text : List ℕ) → Stands Nothing n → Kept n (mkdir_step n k text)
+pub mkdir-kept : (n : Namespace) (k : ℕ) (text : List ℕ) → Stands Nothing n → Kept n (mkdir_step n k text)
 unfolding mkdir_refusals with_node
 mkdir-kept n k text s =
     bind-kept n (asked_path n k text) _ (λ path e.
@@ -136,7 +136,7 @@ not-root n p f unpointed e =
 pub node-there : (n : Namespace) (p : Path) (found : NodeKind) → rest_of n p ≢ [] → node_at n p ≡ Some found → value_at path_cmp (rest_of n p) (tree_at n p) ≡ Some found
 node-there n p found h e = sym (at-node (tree_at n p) (rest_of n p) h) ∙ sym (at-rest n p) ∙ e
 
-rmdir-kept : (n : Namespace) (k : ℕ) (text : List ℕ) → Stands Nothing n → Kept n (rmdir_step n k text)
+pub rmdir-kept : (n : Namespace) (k : ℕ) (text : List ℕ) → Stands Nothing n → Kept n (rmdir_step n k text)
 unfolding rmdir_refusals without_node
 rmdir-kept n k text s =
     bind-kept n (asked_path n k text) _ (λ path e.
@@ -178,7 +178,7 @@ file-childless n p id kind s h there name = absent-none _ (not-some (true-or-fal
 pub file-below : (n : Namespace) (p : Path) (id : FileId) (kind : Kind) → node_at n p ≡ Some (node.File id kind) → rest_of n p ≢ []
 file-below n p id kind h e = let dir : node_at n p ≡ Some node.Dir = at-rest n p ∙ ap (node_in (tree_at n p)) e in absurd (cc)
 
-unlink-kept : (n : Namespace) (k : ℕ) (text : List ℕ) → Stands Nothing n → Kept n (unlink_step n k text)
+pub unlink-kept : (n : Namespace) (k : ℕ) (text : List ℕ) → Stands Nothing n → Kept n (unlink_step n k text)
 unfolding unlink_refusals without_node
 unlink-kept n k text s =
     bind-kept n (asked_path n k text) _ (λ path e.
