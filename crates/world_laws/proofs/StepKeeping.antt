@@ -63,3 +63,14 @@ marked-kept : (n : Namespace) (answer : Result NamespaceOutcome Errno) (m : Mark
 marked-kept n answer mark.Clear s kept = settled-kept n answer s kept
 marked-kept n answer (mark.Fault moved) s kept = same-kept n s
 marked-kept n answer (mark.NoMem moved) s kept = same-kept n s
+
+-- a session asks it, or everything is at rest and it is the end
+abbrev pub Asks : Namespace → ℕ → Step → Type 0
+Asks n k asked = ((0 < k) × (is_shutdown asked ≡ false)) ⊎ ((is_shutdown asked ≡ true) × (is_at_rest n ≡ true))
+
+pub namespace-kept : (n : Namespace) (k : ℕ) (asked : Step) (m : Mark) → Asks n k asked → Stands Nothing n → Keeps n (namespace_step n k asked m).next (namespace_step n k asked m).changes
+unfolding namespace_step
+namespace-kept n k step.Shutdown m (inl asks) s = absurd (cc)
+namespace-kept n k step.Shutdown m (inr rest) s = shutdown-kept n m s rest.1
+namespace-kept n k asked m (inl asks) s = marked-kept n (namespace_answer n k asked) m s (answer-kept n k asked asks.0 s)
+namespace-kept n k asked m (inr rest) s = absurd (cc)
