@@ -40,3 +40,4 @@ pub mod MkfsKeeping
 pub mod RootRemoval
 pub mod ShutdownKeeping
 pub mod StepKeeping
+pub mod WorldSteps

@@ -1,14 +1,40 @@
 -- What a step keeps.
-use Rattle.std.specs.Prelude.{◌≡◌, ℕ, true}
+use Rattle.std.specs.Prelude.{◌≡◌, ℕ, ◌<◌, true, List, [], ◌∷◌}
 use Rattle.vfs_base.specs.declared.entry.Mark.{Mark}
+use Rattle.vfs_base.specs.declared.entry.Who.{Who}
+use Rattle.vfs_base.specs.declared.entry.Who.TheVariants as who
 use Rattle.vfs_base.specs.declared.step.Step.{Step}
+use Rattle.vfs_model.specs.Asking.{Asked, MayAsk, run_steps}
 use Rattle.vfs_model.specs.Boxes.{IsConsistent}
 use Rattle.vfs_model.specs.FileMoves.{file_step, fits_file}
 use Rattle.vfs_model.specs.Homes.{file_at}
-use Rattle.vfs_model.specs.World.{file_part}
+use Rattle.vfs_model.specs.World.{FitsStep, file_part, world_step}
 use Rattle.vfs_model.specs.declared.world.World.{World}
 
 -- a step of the file of a row keeps the world consistent
 abbrev pub FileStepsKeepConsistency : Type 0
 FileStepsKeepConsistency = (w : World) (row : ℕ) (asked : Step) (m : Mark) → IsConsistent w →
     fits_file (file_at w row) asked m ≡ true → IsConsistent (file_part w row (file_step (file_at w row) asked m)).next
+
+-- sessions are numbered from 1
+abbrev pub HasNumber : Who → Type 0
+HasNumber (who.Session k) = 0 < k
+HasNumber (who.Flush row) = Unit {0}
+HasNumber (who.Reclaim row) = Unit {0}
+HasNumber who.End = Unit {0}
+
+-- a step that may be asked, with a mark that fits, keeps the world consistent
+abbrev pub StepsKeepConsistency : Type 0
+StepsKeepConsistency = (w : World) (asker : Who) (asked : Step) (m : Mark) → IsConsistent w → HasNumber asker → MayAsk w asker asked →
+    FitsStep w asker asked m → IsConsistent (world_step w asker asked m).next
+
+-- each step of the list may be asked, with its mark, in the world that the steps before it leave
+abbrev pub MayRun : World → List Asked → Type 0
+MayRun w [] = Unit {0}
+MayRun w (asked ∷ later) =
+    HasNumber asked.who × MayAsk w asked.who asked.step × FitsStep w asked.who asked.step asked.mark
+    × MayRun (world_step w asked.who asked.step asked.mark).next later
+
+-- steps that may be asked one after the other keep the world consistent
+abbrev pub RunsKeepConsistency : Type 0
+RunsKeepConsistency = (run : List Asked) (w : World) → IsConsistent w → MayRun w run → IsConsistent (run_steps w run).next

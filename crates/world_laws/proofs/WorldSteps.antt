@@ -1,0 +1,138 @@
+-- Every step, and every list of steps, keeps the world consistent.
+use Rattle.std.proofs.Common.{◌≡◌, ◌≢◌, ℕ, zero, suc, ◌-◌, ◌*◌, ◌<◌, ◌≤◌, Bool, true, false, not, ◌&&◌, ◌||◌, ◌==◌, Option, Some, None, is_none, List, [], ◌∷◌, fold, length, map, slice_index_or, slice_set, ◌⊎◌, inl, inr, Result, Ok, Err, if◌then◌else◌, refl, sym, ap, subst, ◌∙◌, arith}
+use Rattle.vfs_base.specs.declared.entry.Mark.{Mark}
+use Rattle.vfs_base.specs.declared.entry.Who.{Who}
+use Rattle.vfs_base.specs.declared.entry.Who.TheVariants as who
+use Rattle.vfs_base.specs.declared.ids.FileId.{FileId}
+use Rattle.vfs_base.specs.declared.reply.Reply.{Reply}
+use Rattle.vfs_base.specs.declared.step.Step.{Step}
+use Rattle.vfs_base.specs.declared.step.Step.TheVariants as step
+use Rattle.vfs_model.specs.Asking.{Asked, MayAsk, may_ask, may_ask_file, run_steps}
+use Rattle.vfs_model.specs.Boxes.{CellsFit, IsConsistent}
+use Rattle.vfs_model.specs.Consistency.{agrees}
+use Rattle.vfs_model.specs.FileLife.{backing_of, volume_named}
+use Rattle.vfs_model.specs.FileStep.{step_file}
+use Rattle.vfs_model.specs.Homes.{cell_bytes, cell_capacity, change_row, file_at, with_empty_cells}
+use Rattle.vfs_model.specs.Namespace.{generation_at, life_at}
+use Rattle.vfs_model.specs.NamespaceOutcome.{NamespaceOutcome}
+use Rattle.vfs_model.specs.NamespaceStep.{is_shutdown, namespace_step}
+use Rattle.vfs_model.specs.World.{FitsStep, after_format, fits_on, fits_step, is_done, namespace_part, session_of, step_on, step_row, world_step}
+use Rattle.vfs_model.specs.declared.namespace.Backing.TheVariants as backing
+use Rattle.vfs_model.specs.declared.namespace.Namespace.{Namespace}
+use Rattle.vfs_model.specs.declared.namespace.RowChange.{RowChange}
+use Rattle.vfs_model.specs.declared.namespace.RowChange.TheVariants as change
+use Rattle.vfs_model.specs.declared.world.Homes.{Homes}
+use Rattle.vfs_model.specs.declared.world.World.{World}
+use Rattle.world_laws.proofs.Agreeing.{Agrees}
+use Rattle.world_laws.proofs.Keeping.{Keeps}
+use Rattle.world_laws.proofs.Lists.{below-or-past, same-or-other, set-there}
+use Rattle.world_laws.proofs.Passing.{and-first, and-second}
+use Rattle.world_laws.proofs.Standing.{Nothing, Stands, consistent-of, stands-of}
+use Rattle.world_laws.proofs.StepKeeping.{Asks, namespace-kept}
+use Rattle.world_laws.proofs.Taking.{set-at}
+use Rattle.world_laws.proofs.WorldKeeping.{file-consistent}
+use Rattle.world_laws.specs.Keeping.{HasNumber, MayRun}
+
+-- changes of rows leave the namespace as it was
+changed-namespace : (changes : List RowChange) (w : World) → (fold change_row w changes).namespace ≡ w.namespace
+changed-namespace [] w = refl
+changed-namespace (change.Bind id begins ∷ changes) w = changed-namespace changes (change_row w (change.Bind id begins))
+changed-namespace (change.Free id ending ∷ changes) w = changed-namespace changes (change_row w (change.Free id ending))
+
+-- what a step keeps, and the changes of rows, leave the world consistent
+changed-consistent : (w : World) (next : Namespace) (changes : List RowChange) → IsConsistent w → Keeps w.namespace next changes → IsConsistent (fold change_row (record w { namespace = next }) changes)
+changed-consistent w next changes c kept =
+    let before : Agrees (record w { namespace = next }) w.namespace = record {
+      files = c.sizes.files;
+      agree = c.rows_agree;
+      live = λ row volume cell h. let l = c.cells_fit.live row volume cell h in let e = kept.pages volume cell in omega (arith, l, e);
+      home = λ volume cell. let l = c.cells_fit.home volume cell in let e = kept.pages volume cell in omega (arith, l, e);
+    } in
+    let after = kept.files (record w { namespace = next }) before in
+    let same = changed-namespace changes (record w { namespace = next }) in
+    let out = fold change_row (record w { namespace = next }) changes in
+    consistent-of out (subst (Stands Nothing) (sym same) kept.stands)
+    (λ row. subst (λ n. agrees (life_at n row) (generation_at n row) (file_at out row) ≡ true) (sym same) (after.agree row))
+    (record {
+      live = λ row volume cell h. after.live row volume cell (subst (λ n. backing_of (life_at n row) ≡ backing.Cell volume cell) same h);
+      home = after.home;
+    })
+    after.files
+
+abbrev blank : List (List ℕ) → List (List ℕ)
+blank cells = map (λ bytes. []) cells
+
+abbrev bytes_in : List (List ℕ) → ℕ → List ℕ
+bytes_in cells cell = slice_index_or cells cell []
+
+blank-cell : (cells : List (List ℕ)) (place : ℕ) → length (bytes_in (blank cells) place) ≡ 0
+blank-cell [] place = refl
+blank-cell (bytes ∷ cells) zero = refl
+blank-cell (bytes ∷ cells) (suc place) = blank-cell cells place
+
+emptied-cell : (homes : Homes) (volume u cell : ℕ) → length (cell_bytes (with_empty_cells homes volume) u cell) ≤ length (cell_bytes homes u cell)
+emptied-cell homes volume u cell =
+    set-at (λ cells. length (bytes_in cells cell) ≤ length (cell_bytes homes u cell)) homes.cells volume u (blank (slice_index_or homes.cells volume [])) []
+    (λ e. let none = blank-cell (slice_index_or homes.cells volume []) cell in omega (arith, none)) (omega arith)
+
+blank-consistent : (w : World) (volume : ℕ) → IsConsistent w → IsConsistent (record w { homes = with_empty_cells w.homes volume })
+blank-consistent w volume c =
+    consistent-of (record w { homes = with_empty_cells w.homes volume }) (stands-of w c) c.rows_agree
+    (record { live = c.cells_fit.live; home = λ u cell. let l = c.cells_fit.home u cell in let m = emptied-cell w.homes volume u cell in omega (arith, l, m) })
+    c.sizes.files
+
+formatted-consistent : (w : World) (asked : Step) (answer : Reply) → IsConsistent w → IsConsistent (after_format w asked answer)
+formatted-consistent w (step.Mkfs name) answer c = by (is_done answer)
+  where
+    by : (b : Bool) → IsConsistent (if b then record w { homes = with_empty_cells w.homes (volume_named w.namespace name) } else w)
+    by true = blank-consistent w (volume_named w.namespace name) c
+    by false = c
+formatted-consistent w asked answer c = c
+
+part-consistent : (w : World) (outcome : NamespaceOutcome) (asked : Step) → IsConsistent w → Keeps w.namespace outcome.next outcome.changes → IsConsistent (namespace_part w outcome asked).next
+part-consistent w outcome asked c kept =
+    formatted-consistent (fold change_row (record w { namespace = outcome.next }) outcome.changes) asked outcome.reply (changed-consistent w outcome.next outcome.changes c kept)
+
+-- a step of a file names a row
+no-file : (asked : Step) (id : FileId) → step_file asked ≡ Some id → step_row asked ≡ None → ⊥
+no-file (step.Flush row) id e none = absurd (cc)
+no-file (step.Reclaim row) id e none = absurd (cc)
+no-file (step.Size file) id e none = absurd (cc)
+no-file (step.Read file off len) id e none = absurd (cc)
+no-file (step.Write file off piece) id e none = absurd (cc)
+no-file (step.Append file piece) id e none = absurd (cc)
+no-file (step.Trunc file len) id e none = absurd (cc)
+no-file (step.Sync file) id e none = absurd (cc)
+no-file (step.Load file off len) id e none = absurd (cc)
+no-file (step.Store file off piece) id e none = absurd (cc)
+no-file asked id e none = absurd (cc)
+
+-- who may ask a step of no file
+asks : (w : World) (asker : Who) (asked : Step) → HasNumber asker → may_ask w asker asked ≡ true → step_row asked ≡ None → Asks w.namespace (session_of asker) asked
+unfolding may_ask
+asks w (who.Session k) asked numbered may none = inl (numbered, by (step_file asked) refl may)
+  where
+    opposite : (b : Bool) → not b ≡ true → b ≡ false
+    opposite true h = absurd (cc)
+    opposite false h = refl
+    by : (found : Option FileId) → step_file asked ≡ found → may_ask_file w.namespace k asked found ≡ true → is_shutdown asked ≡ false
+    by None e h = opposite (is_shutdown asked) (and-second (is_none (step_row asked)) _ h)
+    by (Some id) e h = absurd (no-file asked id e none)
+asks w (who.Flush row) (step.Flush other) numbered may none = absurd (cc)
+asks w (who.Flush row) asked numbered may none = absurd (cc)
+asks w (who.Reclaim row) (step.Reclaim other) numbered may none = absurd (cc)
+asks w (who.Reclaim row) asked numbered may none = absurd (cc)
+asks w who.End asked numbered may none = inr (and-first (is_shutdown asked) _ may, and-second (is_shutdown asked) _ may)
+
+on-consistent : (w : World) (k : ℕ) (asked : Step) (m : Mark) (found : Option ℕ) → IsConsistent w → fits_on w k asked m found ≡ true → (found ≡ None → Asks w.namespace k asked) → IsConsistent (step_on w k asked m found).next
+on-consistent w k asked m None c fits may = part-consistent w (namespace_step w.namespace k asked m) asked c (namespace-kept w.namespace k asked m (may refl) (stands-of w c))
+on-consistent w k asked m (Some row) c fits may = file-consistent w row asked m c fits
+
+pub step-consistent : (w : World) (asker : Who) (asked : Step) (m : Mark) → IsConsistent w → HasNumber asker → MayAsk w asker asked → FitsStep w asker asked m → IsConsistent (world_step w asker asked m).next
+unfolding world_step fits_step
+step-consistent w asker asked m c numbered may fits = on-consistent w (session_of asker) asked m (step_row asked) c fits (asks w asker asked numbered may)
+
+pub run-consistent : (run : List Asked) (w : World) → IsConsistent w → MayRun w run → IsConsistent (run_steps w run).next
+run-consistent [] w c may = c
+run-consistent (asked ∷ later) w c may =
+    run-consistent later (world_step w asked.who asked.step asked.mark).next (step-consistent w asked.who asked.step asked.mark c may.0 may.1 may.2) may.3
