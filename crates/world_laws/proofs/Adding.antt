@@ -1,5 +1,5 @@
 -- A mount more, without nodes, on a folder without nodes.
-use Rattle.std.proofs.Common.{◌≡◌, ◌≢◌, ℕ, zero, suc, ◌+◌, ◌-◌, ◌<◌, ◌≤◌, Bool, true, false, not, ◌||◌, ◌&&◌, ◌==◌, Option, Some, None, is_some, IsSomeAnd, List, [], ◌∷◌, ◌++◌, length, drop, filter, find, slice_index_or, slice_set, ◌⊎◌, inl, inr, if◌then◌else◌, refl, sym, ap, subst, ◌∙◌, arith, length-append}
+use Rattle.std.proofs.Common.{◌≡◌, ◌≢◌, ℕ, suc, ◌+◌, ◌<◌, true, false, not, ◌&&◌, ◌==◌, Option, Some, None, IsSomeAnd, List, [], ◌∷◌, ◌++◌, length, drop, filter, find, slice_index_or, slice_set, ◌⊎◌, inl, inr, if◌then◌else◌, refl, sym, ap, subst, ◌∙◌, arith, length-append}
 use Rattle.std.proofs.lemmas.List.{append-nil, get_or_append_left, set-get_or}
 use Rattle.std.proofs.lemmas.List.Elements.{filter-append}
 use Rattle.std.proofs.lemmas.List.Folds.{find-append, list_any-append}
@@ -7,27 +7,23 @@ use Rattle.std.specs.Option.{option_or}
 use Rattle.std.specs.Prelude.{nat_lt}
 use Rattle.std.proofs.Math.Seq.{get_or-append_seam}
 use Rattle.std.specs.List.{list_any}
-use Rattle.vfs_base.specs.Path.{Path, path_cmp, printed}
+use Rattle.vfs_base.specs.Path.{Path}
 use Rattle.vfs_base.specs.declared.kinds.NodeKind.TheVariants as node
-use Rattle.vfs_model.proofs.CoveringMounts.{nearer}
 use Rattle.vfs_model.proofs.EmptyMounts.{empty-changes-nothing}
 use Rattle.vfs_model.proofs.MountLaws.{nearer-old, nearest-append}
 use Rattle.vfs_model.proofs.MountsApart.{standing-apart}
 use Rattle.vfs_model.proofs.Trees.{same_path-itself, same_path-other}
-use Rattle.vfs_model.specs.Consistency.{FoldersStand, IsLive, LivesFit, ReferencesLive, covered_mount, fits_mount, is_number, mount_numbered, stands_on_folder}
+use Rattle.vfs_model.specs.Consistency.{FoldersStand, LivesFit, ReferencesLive, covered_mount, fits_mount, is_number, mount_numbered, stands_on_folder}
 use Rattle.vfs_model.specs.Laws.{HasNoPoint, with_mount}
-use Rattle.vfs_model.specs.Lookup.{covering_mount, has_nodes, is_below, is_dir_node, is_folder, is_point, is_prefix, nearest, node_at, node_in, rest_of}
-use Rattle.vfs_model.specs.Namespace.{Tree, all_mounts, folder_of, same_path, tree_of}
-use Rattle.vfs_model.specs.declared.namespace.LiveFile.{LiveFile}
+use Rattle.vfs_model.specs.Lookup.{covering_mount, has_nodes, is_below, is_dir_node, is_prefix, nearest, node_at, node_in}
+use Rattle.vfs_model.specs.Namespace.{all_mounts, folder_of, same_path, tree_of}
 use Rattle.vfs_model.specs.declared.namespace.Mount.{Mount}
 use Rattle.vfs_model.specs.declared.namespace.Namespace.{Namespace}
 use Rattle.world_laws.proofs.Beside.{alive-beside}
-use Rattle.world_laws.proofs.Binding.{Rest, rest-of}
-use Rattle.world_laws.proofs.Covering.{any-default}
-use Rattle.world_laws.proofs.Lists.{below-or-past, no-place, number-itself, or-first, same-or-other, true-or-false}
-use Rattle.world_laws.proofs.Nodes.{at-rest, number_at, prefix-itself, tree_at}
-use Rattle.world_laws.proofs.Passing.{and-first}
-use Rattle.world_laws.proofs.Standing.{IsUsed, NamespaceSizes, Nothing, Stands}
+use Rattle.world_laws.proofs.Binding.{Rest}
+use Rattle.world_laws.proofs.Lists.{below-or-past, no-place, number-itself, or-first, true-or-false}
+use Rattle.world_laws.proofs.Nodes.{at-rest, prefix-itself}
+use Rattle.world_laws.proofs.Standing.{Nothing, Stands}
 
 -- a mount that may come: on a folder without nodes, with no point at or below its own, and with a number of its own
 pub record MayMount (n : Namespace) (mount : Mount) : Type 0 where
@@ -50,9 +46,9 @@ pub placed : (mounts : List Mount) (mount : Mount) (place : ℕ) (d : Mount) →
 placed mounts mount place d l = elim (below-or-past place (length mounts)) [
   | inl m ↦ record { is = inl (m, get_or_append_left mounts (mount ∷ []) d place m) }
   | inr m ↦
-    let all : length (mounts ++ mount ∷ []) ≡ length mounts + 1 = length-append mounts (mount ∷ []) in
-    let last : place ≡ length mounts = omega (arith, all, l, m) in
-    record { is = inr (last, ap (λ k. slice_index_or (mounts ++ mount ∷ []) k d) last ∙ get_or-append_seam mounts mount [] d) }
+      let all : length (mounts ++ mount ∷ []) ≡ length mounts + 1 = length-append mounts (mount ∷ []) in
+      let last : place ≡ length mounts = omega (arith, all, l, m) in
+      record { is = inr (last, ap (λ k. slice_index_or (mounts ++ mount ∷ []) k d) last ∙ get_or-append_seam mounts mount [] d) }
 ]
 
 module _ (n : Namespace) (mount : Mount) (s : Stands Nothing n) (may : MayMount n mount) where
@@ -155,14 +151,14 @@ module _ (n : Namespace) (mount : Mount) (s : Stands Nothing n) (may : MayMount 
       is_below (slice_index_or (all_mounts (with_one n mount)) other d).point (slice_index_or (all_mounts (with_one n mount)) place d).point ≡ false
   one-nested place other d l m = elim (all-placed other d m).is [
     | inl y ↦
-      let before : slice_index_or (all_mounts (with_one n mount)) place d ≡ slice_index_or (all_mounts n) place d = get_or_append_left (all_mounts n) (mount ∷ []) d place (omega (arith, l, y.0)) in
-      ap (λ x. is_below x.point (slice_index_or (all_mounts (with_one n mount)) place d).point) y.1 ∙ ap (λ x. is_below (slice_index_or (all_mounts n) other d).point x.point) before
-      ∙ s.folders.nested place other d l y.0
+        let before : slice_index_or (all_mounts (with_one n mount)) place d ≡ slice_index_or (all_mounts n) place d = get_or_append_left (all_mounts n) (mount ∷ []) d place (omega (arith, l, y.0)) in
+        ap (λ x. is_below x.point (slice_index_or (all_mounts (with_one n mount)) place d).point) y.1 ∙ ap (λ x. is_below (slice_index_or (all_mounts n) other d).point x.point) before
+        ∙ s.folders.nested place other d l y.0
     | inr y ↦
-      let within : place < length (all_mounts n) = omega (arith, l, y.0) in
-      let before : slice_index_or (all_mounts (with_one n mount)) place d ≡ slice_index_or (all_mounts n) place d = get_or_append_left (all_mounts n) (mount ∷ []) d place within in
-      ap (λ x. is_below x.point (slice_index_or (all_mounts (with_one n mount)) place d).point) y.1 ∙ ap (λ x. is_below mount.point x.point) before
-      ∙ ap (λ b. b && nat_lt (length mount.point) (length (slice_index_or (all_mounts n) place d).point)) (not-prefix place d within)
+        let within : place < length (all_mounts n) = omega (arith, l, y.0) in
+        let before : slice_index_or (all_mounts (with_one n mount)) place d ≡ slice_index_or (all_mounts n) place d = get_or_append_left (all_mounts n) (mount ∷ []) d place within in
+        ap (λ x. is_below x.point (slice_index_or (all_mounts (with_one n mount)) place d).point) y.1 ∙ ap (λ x. is_below mount.point x.point) before
+        ∙ ap (λ b. b && nat_lt (length mount.point) (length (slice_index_or (all_mounts n) place d).point)) (not-prefix place d within)
   ]
 
   still-number : (number : ℕ) → is_number n number ≡ true → is_number (with_one n mount) number ≡ true
@@ -190,8 +186,10 @@ module _ (n : Namespace) (mount : Mount) (s : Stands Nothing n) (may : MayMount 
   one-live : ReferencesLive (with_one n mount)
   one-live = record {
     linked = λ number path id kind h. alive-beside n (with_one n mount) id kind number (s.live.linked number path id kind h);
-    held = λ place reference h. (alive-beside n (with_one n mount) reference.file reference.kind reference.mount (s.live.held place reference h).0,
-        still-number reference.mount (s.live.held place reference h).1);
+    held = λ place reference h. (
+      alive-beside n (with_one n mount) reference.file reference.kind reference.mount (s.live.held place reference h).0,
+      still-number reference.mount (s.live.held place reference h).1,
+    );
   }
 
   pub one-rest : Rest Nothing (with_one n mount)

@@ -1,17 +1,15 @@
 -- The files of a world agree with a namespace, and go on doing so where both change.
-use Rattle.std.proofs.Common.{◌≡◌, ◌≢◌, ℕ, ◌+◌, ◌-◌, ◌<◌, ◌≤◌, ◌==◌, Bool, true, false, not, ◌&&◌, Option, Some, None, List, [], ◌∷◌, ◌++◌, length, fold, slice_index_or, slice_set, ◌⊎◌, inl, inr, refl, sym, ap, subst, ◌∙◌, arith}
+use Rattle.std.proofs.Common.{◌≡◌, ◌≢◌, ℕ, ◌+◌, ◌-◌, ◌<◌, ◌≤◌, ◌==◌, true, false, not, Option, Some, None, List, [], length, slice_index_or, slice_set, ◌⊎◌, inl, inr, refl, sym, ap, subst, ◌∙◌, arith}
 use Rattle.std.proofs.lemmas.Bool.{le-leb, leb-true}
 use Rattle.std.proofs.lemmas.List.{length-set}
 use Rattle.std.specs.Prelude.{nat_le}
-use Rattle.vfs_base.specs.Path.{Path}
-use Rattle.vfs_base.specs.declared.ids.FileId.{FileId}
 use Rattle.vfs_base.specs.declared.kinds.Kind.{Kind}
 use Rattle.vfs_base.specs.declared.kinds.Kind.TheVariants as kind
 use Rattle.vfs_base.specs.declared.limits.TheConstants.{TMP_FILE_MAX}
 use Rattle.vfs_model.specs.Boxes.{file_capacity}
 use Rattle.vfs_model.specs.Consistency.{agrees, same_kind}
-use Rattle.vfs_model.specs.FileLife.{Rows, after_end, after_taking, backing_of, bind_row, free_row, next_file, with_cell, with_device}
-use Rattle.vfs_model.specs.Homes.{bound_file, bytes_of, cell_bytes, cell_capacity, change_row, file_at, homes_after_bind, homes_after_end, rom_bytes, with_cell_bytes, with_file}
+use Rattle.vfs_model.specs.FileLife.{after_end, after_taking, backing_of, bind_row, next_file, with_cell, with_device}
+use Rattle.vfs_model.specs.Homes.{bound_file, bytes_of, cell_bytes, cell_capacity, change_row, file_at, homes_after_bind, homes_after_end, rom_bytes, with_cell_bytes}
 use Rattle.vfs_model.specs.Namespace.{file_of, generation_at, life_at}
 use Rattle.vfs_model.specs.declared.namespace.Backing.{Backing}
 use Rattle.vfs_model.specs.declared.namespace.Backing.TheVariants as backing
@@ -21,14 +19,12 @@ use Rattle.vfs_model.specs.declared.namespace.LiveFile.{LiveFile}
 use Rattle.vfs_model.specs.declared.namespace.Namespace.{Namespace}
 use Rattle.vfs_model.specs.declared.namespace.Origin.{Origin}
 use Rattle.vfs_model.specs.declared.namespace.Origin.TheVariants as origin
-use Rattle.vfs_model.specs.declared.namespace.RowChange.{RowChange}
 use Rattle.vfs_model.specs.declared.namespace.RowChange.TheVariants as change
 use Rattle.vfs_model.specs.declared.world.FileState.{FileState}
 use Rattle.vfs_model.specs.declared.world.FileState.TheVariants as file
-use Rattle.vfs_model.specs.declared.world.Homes.{Homes}
 use Rattle.vfs_model.specs.declared.world.World.{World}
-use Rattle.world_laws.proofs.Lists.{number-itself, same-or-other, same-some, set-here, set-there}
-use Rattle.world_laws.proofs.Passing.{and-both, and-first, and-second}
+use Rattle.world_laws.proofs.Lists.{number-itself, same-or-other, set-here, set-there}
+use Rattle.world_laws.proofs.Passing.{and-both, and-second}
 use Rattle.world_laws.proofs.Taking.{set-at, with_life}
 
 -- the files of a world are those that the namespace says, and its cells hold what lies on them
@@ -91,6 +87,7 @@ cell-volume v c w d e = (ap first e, ap second e)
     first backing.Memory = v
     first (backing.Cell volume cell) = volume
     first (backing.Device device) = v
+
     second : Backing → ℕ
     second backing.Memory = c
     second (backing.Cell volume cell) = cell
@@ -113,8 +110,8 @@ home-set : (v : World) (volume cell : ℕ) (bytes : List ℕ) → length bytes �
 home-set v volume cell bytes l home w d =
     set-at (λ cells. length (slice_index_or cells d []) ≤ cell_capacity v.namespace w d) v.homes.cells volume w (slice_set (slice_index_or v.homes.cells volume []) cell bytes) []
     (λ e. set-at (λ x. length x ≤ cell_capacity v.namespace w d) (slice_index_or v.homes.cells volume []) cell d bytes []
-      (λ f. subst (λ x. length bytes ≤ cell_capacity v.namespace x d) (sym e) (subst (λ x. length bytes ≤ cell_capacity v.namespace volume x) (sym f) l))
-      (subst (λ x. length (slice_index_or (slice_index_or v.homes.cells x []) d []) ≤ cell_capacity v.namespace w d) e (home w d)))
+    (λ f. subst (λ x. length bytes ≤ cell_capacity v.namespace x d) (sym e) (subst (λ x. length bytes ≤ cell_capacity v.namespace volume x) (sym f) l))
+    (subst (λ x. length (slice_index_or (slice_index_or v.homes.cells x []) d []) ≤ cell_capacity v.namespace w d) e (home w d)))
     (home w d)
 
 bound-home : (v : World) (begins : Origin) → ((w d : ℕ) → length (cell_bytes v.homes w d) ≤ cell_capacity v.namespace w d) →

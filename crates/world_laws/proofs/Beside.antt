@@ -1,5 +1,5 @@
 -- What holds of a namespace stays where other parts of it change.
-use Rattle.std.proofs.Common.{◌≡◌, ℕ, Bool, Option, List, refl}
+use Rattle.std.proofs.Common.{ℕ, Option, List}
 use Rattle.vfs_base.specs.Path.{Path}
 use Rattle.vfs_base.specs.declared.ids.FileId.{FileId}
 use Rattle.vfs_base.specs.declared.kinds.Kind.{Kind}
@@ -9,7 +9,6 @@ use Rattle.vfs_model.specs.Lookup.{covering_mount, node_at}
 use Rattle.vfs_model.specs.Namespace.{Tree}
 use Rattle.vfs_model.specs.declared.namespace.DeviceState.{DeviceState}
 use Rattle.vfs_model.specs.declared.namespace.LiveFile.{LiveFile}
-use Rattle.vfs_model.specs.declared.namespace.Mount.{Mount}
 use Rattle.vfs_model.specs.declared.namespace.Namespace.{Namespace}
 use Rattle.vfs_model.specs.declared.namespace.Reference.{Reference}
 use Rattle.vfs_model.specs.declared.namespace.VolumeState.{VolumeState}

@@ -1,5 +1,5 @@
 -- A free row becomes a live file, which nothing names yet.
-use Rattle.std.proofs.Common.{◌≡◌, ◌≢◌, ℕ, ◌+◌, ◌-◌, ◌<◌, ◌≤◌, ◌==◌, Bool, true, false, ◌&&◌, Option, Some, None, is_some, IsSomeAnd, List, [], ◌∷◌, length, slice_index_or, slice_set, ◌⊎◌, inl, inr, refl, sym, ap, subst, ◌∙◌, arith}
+use Rattle.std.proofs.Common.{◌≡◌, ◌≢◌, ℕ, ◌+◌, ◌-◌, ◌<◌, ◌==◌, Bool, true, false, ◌&&◌, Option, Some, None, is_some, IsSomeAnd, List, length, slice_index_or, slice_set, ◌⊎◌, inl, inr, refl, sym, ap, subst, ◌∙◌, arith}
 use Rattle.std.proofs.lemmas.List.{length-set}
 use Rattle.std.specs.Prelude.{count_by}
 use Rattle.std.specs.FinMap.Entries.{find as value_at}
@@ -8,8 +8,8 @@ use Rattle.vfs_base.specs.declared.ids.FileId.{FileId}
 use Rattle.vfs_base.specs.declared.kinds.NodeKind.TheVariants as node
 use Rattle.vfs_base.specs.declared.kinds.Kind.{Kind}
 use Rattle.vfs_model.specs.Boxes.{BoxesPlaced, RomsClosed, cell_files, fits_kind, is_backed_by, lies_on_cell, lies_on_device, one_if}
-use Rattle.vfs_model.specs.Consistency.{FoldersStand, IsClosedTree, IsLive, LivesFit, ReferencesLive, fits_mount, is_number, mount_numbered, same_kind}
-use Rattle.vfs_model.specs.FileLife.{after_taking, bind_row, no_device, volume_at, volume_named, with_cell, with_device}
+use Rattle.vfs_model.specs.Consistency.{FoldersStand, IsClosedTree, IsLive, LivesFit, ReferencesLive, fits_mount, mount_numbered, same_kind}
+use Rattle.vfs_model.specs.FileLife.{after_taking, bind_row, no_device, volume_at, with_cell, with_device}
 use Rattle.vfs_model.specs.Lookup.{is_dir_node}
 use Rattle.vfs_model.specs.Namespace.{generation_at, life_at, tree_of}
 use Rattle.vfs_model.specs.OpenStep.{kind_of}
@@ -19,11 +19,10 @@ use Rattle.vfs_model.specs.declared.namespace.DeviceState.{DeviceState}
 use Rattle.vfs_model.specs.declared.namespace.LiveFile.{LiveFile}
 use Rattle.vfs_model.specs.declared.namespace.Mount.{Mount}
 use Rattle.vfs_model.specs.declared.namespace.Namespace.{Namespace}
-use Rattle.vfs_model.specs.declared.namespace.Reference.{Reference}
 use Rattle.vfs_model.specs.declared.namespace.VolumeState.{VolumeState}
-use Rattle.world_laws.proofs.Beside.{alive-beside, folders-beside, live-beside}
-use Rattle.world_laws.proofs.Lists.{number-itself, other-number, same-number, same-or-other, same-some, set-here, set-there, some-within}
-use Rattle.world_laws.proofs.Passing.{and-both, and-first, and-second}
+use Rattle.world_laws.proofs.Beside.{folders-beside, live-beside}
+use Rattle.world_laws.proofs.Lists.{number-itself, other-number, same-or-other, same-some, set-here, set-there}
+use Rattle.world_laws.proofs.Passing.{and-both}
 use Rattle.world_laws.proofs.Standing.{IsUsed, NamespaceSizes, Nothing, Only, Stands}
 use Rattle.world_laws.proofs.Taking.{BoxesBut, CellsPlaced, DevicesPlaced, boxes-all, boxes-but, but-cell, but-device, but-life, cell-files, cell-named, cell-pages, count-set, set-at, spare-here, spare-other, with_life}
 
@@ -142,19 +141,19 @@ cells-taken n row life generations l free may cells (backing.Cell w d) e volume 
     let before = cells volume cell (subst (λ x. volume < x) (length-set n.volumes w _) v) in_pages in
     elim (this-or-other volume cell w d) [
       | inl h ↦
-        let one : one_if (lies_on_cell volume cell life.backing) ≡ 1 =
-        ap (λ x. one_if (lies_on_cell volume cell x)) (e ∙ ap (λ x. backing.Cell x d) (sym h.0) ∙ ap (λ x. backing.Cell volume x) (sym h.1)) ∙ ap one_if (own-cell volume cell) in
-        let was : one_if (slice_index_or (volume_at n volume).spare cell false) ≡ 1 =
-        ap (λ x. one_if (slice_index_or (volume_at n x).spare cell false)) h.0 ∙ ap (λ x. one_if (slice_index_or (volume_at n w).spare x false)) h.1 ∙ ap one_if taken.2 in
-        let is : one_if (slice_index_or (volume_at (with_cell false m w d) volume).spare cell false) ≡ 0 =
-        ap (λ x. one_if (slice_index_or (volume_at (with_cell false m w d) x).spare cell false)) h.0
-        ∙ ap (λ x. one_if (slice_index_or (volume_at (with_cell false m w d) w).spare x false)) h.1 ∙ ap one_if (spare-here false m w d taken.0 taken.1) in
-        omega (arith, bound, same, before, one, was, is)
+          let one : one_if (lies_on_cell volume cell life.backing) ≡ 1 =
+          ap (λ x. one_if (lies_on_cell volume cell x)) (e ∙ ap (λ x. backing.Cell x d) (sym h.0) ∙ ap (λ x. backing.Cell volume x) (sym h.1)) ∙ ap one_if (own-cell volume cell) in
+          let was : one_if (slice_index_or (volume_at n volume).spare cell false) ≡ 1 =
+          ap (λ x. one_if (slice_index_or (volume_at n x).spare cell false)) h.0 ∙ ap (λ x. one_if (slice_index_or (volume_at n w).spare x false)) h.1 ∙ ap one_if taken.2 in
+          let is : one_if (slice_index_or (volume_at (with_cell false m w d) volume).spare cell false) ≡ 0 =
+          ap (λ x. one_if (slice_index_or (volume_at (with_cell false m w d) x).spare cell false)) h.0
+          ∙ ap (λ x. one_if (slice_index_or (volume_at (with_cell false m w d) w).spare x false)) h.1 ∙ ap one_if (spare-here false m w d taken.0 taken.1) in
+          omega (arith, bound, same, before, one, was, is)
       | inr h ↦
-        let none : one_if (lies_on_cell volume cell life.backing) ≡ 0 = ap (λ x. one_if (lies_on_cell volume cell x)) e ∙ ap one_if (apart-cell volume cell w d h) in
-        let is : one_if (slice_index_or (volume_at (with_cell false m w d) volume).spare cell false) ≡ one_if (slice_index_or (volume_at n volume).spare cell false) =
-        ap one_if (spare-other false m w d volume cell h) in
-        omega (arith, bound, same, before, none, is)
+          let none : one_if (lies_on_cell volume cell life.backing) ≡ 0 = ap (λ x. one_if (lies_on_cell volume cell x)) e ∙ ap one_if (apart-cell volume cell w d h) in
+          let is : one_if (slice_index_or (volume_at (with_cell false m w d) volume).spare cell false) ≡ one_if (slice_index_or (volume_at n volume).spare cell false) =
+          ap one_if (spare-other false m w d volume cell h) in
+          omega (arith, bound, same, before, none, is)
     ]
 
 -- devices taken
@@ -186,18 +185,18 @@ devices-taken n row life generations l free may devices (backing.Device one) e d
     let within : device < length n.devices = subst (λ x. device < x) (length-set n.devices one _) d in
     elim (same-or-other device one) [
       | inr h ↦
-        devices-same n row life device l free (ap (lies_on_device device) e ∙ other-number one device (λ f. h (sym f))) devices within
-        ∙ ap one_if (sym (out-other true m one device h))
+          devices-same n row life device l free (ap (lies_on_device device) e ∙ other-number one device (λ f. h (sym f))) devices within
+          ∙ ap one_if (sym (out-other true m one device h))
       | inl h ↦
-        let taken = subst (IsFreeBacking n) e may in
-        let bound = devices-bound n row life device l free in
-        let counts : one_if (lies_on_device device life.backing) ≡ 1 =
-        ap (λ x. one_if (lies_on_device device x)) (e ∙ ap backing.Device (sym h)) ∙ ap one_if (number-itself device) in
-        let was : one_if (slice_index_or n.devices device no_device).is_out ≡ 0 = ap (λ x. one_if (slice_index_or n.devices x no_device).is_out) h ∙ ap one_if taken.1 in
-        let is : one_if (slice_index_or (with_device true m one).devices device no_device).is_out ≡ 1 =
-        ap (λ x. one_if (slice_index_or (with_device true m one).devices x no_device).is_out) h ∙ ap one_if (out-here true m one taken.0) in
-        let before = devices device within in
-        omega (arith, bound, counts, was, is, before)
+          let taken = subst (IsFreeBacking n) e may in
+          let bound = devices-bound n row life device l free in
+          let counts : one_if (lies_on_device device life.backing) ≡ 1 =
+          ap (λ x. one_if (lies_on_device device x)) (e ∙ ap backing.Device (sym h)) ∙ ap one_if (number-itself device) in
+          let was : one_if (slice_index_or n.devices device no_device).is_out ≡ 0 = ap (λ x. one_if (slice_index_or n.devices x no_device).is_out) h ∙ ap one_if taken.1 in
+          let is : one_if (slice_index_or (with_device true m one).devices device no_device).is_out ≡ 1 =
+          ap (λ x. one_if (slice_index_or (with_device true m one).devices x no_device).is_out) h ∙ ap one_if (out-here true m one taken.0) in
+          let before = devices device within in
+          omega (arith, bound, counts, was, is, before)
     ]
 
 pub but-taken : (m : Namespace) (b : Backing) → BoxesBut m → BoxesBut (after_taking m b)

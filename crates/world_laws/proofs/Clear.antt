@@ -1,28 +1,27 @@
 -- Where nothing stands below a path, no point of a mount does.
-use Rattle.std.proofs.Common.{◌≡◌, ◌≢◌, ℕ, zero, suc, ◌+◌, ◌<◌, ◌≤◌, Bool, true, false, not, ◌||◌, ◌&&◌, Option, Some, None, is_some, List, [], ◌∷◌, ◌++◌, length, drop, filter, slice_index_or, ◌⊎◌, inl, inr, refl, sym, ap, subst, ◌∙◌, arith, length-append, append_assoc, if◌then◌else◌}
+use Rattle.std.proofs.Common.{◌≡◌, ◌≢◌, ℕ, zero, suc, ◌+◌, ◌<◌, ◌≤◌, Bool, true, false, not, ◌&&◌, Some, None, List, [], ◌∷◌, ◌++◌, length, drop, filter, slice_index_or, ◌⊎◌, inl, inr, refl, sym, ap, subst, ◌∙◌, arith, length-append, append_assoc, if◌then◌else◌}
 use Rattle.std.proofs.lemmas.Bool.{lt-ltb}
-use Rattle.std.proofs.lemmas.List.{append_cancel_left, append-nil}
+use Rattle.std.proofs.lemmas.List.{append_cancel_left}
 use Rattle.std.specs.FinMap.Entries.{find as value_at}
 use Rattle.std.specs.List.{list_any}
 use Rattle.std.specs.Prelude.{nat_lt}
 use Rattle.vfs_base.specs.Path.{Path, path_cmp}
-use Rattle.vfs_base.specs.declared.kinds.NodeKind.{NodeKind}
 use Rattle.vfs_base.specs.declared.kinds.NodeKind.TheVariants as node
 use Rattle.vfs_model.proofs.CoveringMounts.{IsOneOf, nearest-found, nearest-longest}
 use Rattle.vfs_model.proofs.MountLaws.{prefixes-nest}
 use Rattle.vfs_model.proofs.MovedLaws.{none-below, prefix-append}
-use Rattle.vfs_model.proofs.Trees.{prefix-splits, same_path-is, same_path-itself, same_path-other}
-use Rattle.vfs_model.specs.Consistency.{FoldersStand, IsClosedTree, covered_mount}
+use Rattle.vfs_model.proofs.Trees.{prefix-splits, same_path-itself, same_path-other}
+use Rattle.vfs_model.specs.Consistency.{FoldersStand, covered_mount}
 use Rattle.vfs_model.specs.Laws.{HasNoPoint}
-use Rattle.vfs_model.specs.Lookup.{covering_mount, has_nodes, is_below, is_dir_node, is_point, is_prefix, nearest, node_in, rest_of}
-use Rattle.vfs_model.specs.Namespace.{Tree, all_mounts, same_path, tree_of}
+use Rattle.vfs_model.specs.Lookup.{covering_mount, has_nodes, is_below, is_point, is_prefix, nearest, node_in, rest_of}
+use Rattle.vfs_model.specs.Namespace.{all_mounts, same_path, tree_of}
 use Rattle.vfs_model.specs.declared.namespace.Mount.{Mount}
 use Rattle.vfs_model.specs.declared.namespace.Namespace.{Namespace}
-use Rattle.world_laws.proofs.Covering.{IsMount, any-default, covering-is, covers-longest, covers-prefix, drop-front, one-number, one-point, prefix-append-both, prefix-length, prefix-trans, same-prefix, splits}
-use Rattle.world_laws.proofs.Lists.{AnyPlace, any-place, below-or-past, no-place, place-any, same-or-other, true-or-false}
-use Rattle.world_laws.proofs.Nodes.{number_at, tree_at, prefix-itself}
-use Rattle.world_laws.proofs.Points.{first-or-later, mount-at, one-later, point-covers, point-not-root}
-use Rattle.world_laws.proofs.TreeParts.{LastName, at-node, named, same-or-other-path}
+use Rattle.world_laws.proofs.Covering.{IsMount, covering-is, covers-longest, covers-prefix, one-point, prefix-length, prefix-trans, same-prefix, splits}
+use Rattle.world_laws.proofs.Lists.{AnyPlace, any-place, below-or-past, place-any, true-or-false}
+use Rattle.world_laws.proofs.Nodes.{tree_at, prefix-itself}
+use Rattle.world_laws.proofs.Points.{first-or-later, one-later, point-covers, point-not-root}
+use Rattle.world_laws.proofs.TreeParts.{at-node}
 
 -- one that passes is kept by a filter
 kept-has : (test : Mount → Bool) (x : Mount) (xs : List Mount) (found : Mount) (b : Bool) → test x ≡ b → test found ≡ true → (IsOneOf xs found → IsOneOf (filter test xs) found) →
@@ -147,5 +146,6 @@ module _ (n : Namespace) (p : Path) (f : FoldersStand n) (unpointed : is_point n
       at zero l h =
           not-point 0 n.root (omega arith) (same-prefix n.root.point p n.root.point (prefix-itself n.root.point) h (let m = prefix-length p n.root.point h in let e = ap (λ y. length y) f.root.0 in omega (arith, m, e)))
       at (suc place) l h = no-point-below (length (slice_index_or n.mounts place n.root).point) place n.root (omega (arith, l)) (omega arith) h tt
+
       somewhere : AnyPlace (λ mount. is_prefix p mount.point) (all_mounts n) n.root → ⊥
       somewhere found = at found.place found.within found.holds

@@ -1,32 +1,27 @@
 -- What a mount begins with is a tree, each file of which is of the mount's type.
-use Rattle.std.proofs.Common.{◌≡◌, ◌≢◌, ℕ, zero, suc, ◌+◌, ◌-◌, ◌<◌, ◌≤◌, Bool, true, false, cond, not, ◌||◌, ◌&&◌, ◌==◌, T, Option, Some, None, is_some, List, [], ◌∷◌, ◌++◌, length, map, fold, slice_index_or, ◌⊎◌, inl, inr, if◌then◌else◌, refl, sym, ap, subst, ◌∙◌, arith}
-use Rattle.std.proofs.lemmas.List.Sums.{sum_by-cons, count_by-le-length}
-use Rattle.std.specs.FinMap.Entries.{below_all, by_order, find as value_at, find-put, is_sorted, is_sorted-put, length-put, put}
+use Rattle.std.proofs.Common.{◌≡◌, ◌≢◌, ℕ, suc, ◌+◌, ◌<◌, ◌≤◌, Bool, true, false, cond, ◌&&◌, T, Option, Some, None, is_some, List, [], ◌∷◌, ◌++◌, length, map, fold, slice_index_or, ◌⊎◌, inl, inr, refl, sym, ap, subst, ◌∙◌, arith}
+use Rattle.std.specs.FinMap.Entries.{below_all, by_order, find as value_at, is_sorted, is_sorted-put, put}
 use Rattle.std.specs.List.{enumerate_from}
 use Rattle.std.specs.Ordering.{eq_by_cmp, is_lt}
-use Rattle.std.specs.Prelude.{count_by}
 use Rattle.std.specs.declared.cmp.Ordering.{Ordering}
 use Rattle.std.specs.declared.cmp.Ordering.TheVariants.{Less, Equal, Greater}
 use Rattle.vfs_base.specs.Path.{Path, path_cmp}
 use Rattle.vfs_base.specs.PathLaws.{path_cmp_exact, path_cmp_total}
-use Rattle.vfs_base.specs.declared.kinds.FsType.{FsType}
-use Rattle.vfs_base.specs.declared.kinds.FsType.TheVariants as fs
 use Rattle.vfs_model.proofs.Trees.{same_path-is}
-use Rattle.vfs_model.specs.Boxes.{is_kept_dir, is_kept_on, is_rom_dir, one_if}
+use Rattle.vfs_model.specs.Boxes.{is_kept_dir, is_rom_dir}
 use Rattle.vfs_model.specs.Consistency.{IsClosedTree}
-use Rattle.vfs_model.specs.Content.{Content, content_of, device_content, file_count, kept_origin, no_rom, rom_at, rom_origin}
-use Rattle.vfs_model.specs.FileLife.{no_device, no_volume, volume_at, volume_named}
+use Rattle.vfs_model.specs.Content.{Content, device_content, kept_origin, no_rom, rom_origin}
+use Rattle.vfs_model.specs.FileLife.{no_device, volume_at}
 use Rattle.vfs_model.specs.Namespace.{same_path}
 use Rattle.vfs_model.specs.declared.namespace.DeviceState.{DeviceState}
 use Rattle.vfs_model.specs.declared.namespace.KeptNode.{KeptNode}
 use Rattle.vfs_model.specs.declared.namespace.KeptNode.TheVariants as kept
-use Rattle.vfs_model.specs.declared.namespace.Mount.{Mount}
 use Rattle.vfs_model.specs.declared.namespace.Namespace.{Namespace}
 use Rattle.vfs_model.specs.declared.namespace.Origin.{Origin}
 use Rattle.vfs_model.specs.declared.namespace.Origin.TheVariants as origin
 use Rattle.vfs_model.specs.declared.namespace.RomNode.{RomNode}
 use Rattle.vfs_model.specs.declared.namespace.RomNode.TheVariants as rom
-use Rattle.world_laws.proofs.Filling.{AllFit, Fits, FitsOrigin, begins_on, content_shape, pending}
+use Rattle.world_laws.proofs.Filling.{content_shape}
 use Rattle.world_laws.proofs.Lists.{or-either}
 
 -- a content is a tree: no root, folders above, at most 4096 nodes
@@ -97,10 +92,12 @@ rom-tree n place closed = valued-tree (rom_origin place) rom_shape same refl is_
     same : (p : Path) (x : RomNode) → content_shape (Some (rom_origin place p x)) ≡ rom_shape (Some x)
     same p rom.Dir = refl
     same p (rom.File bytes) = refl
+
     dir : (found : Option RomNode) → is_rom_dir found ≡ true → rom_shape found ≡ 1
     dir None h = absurd (cc)
     dir (Some rom.Dir) h = refl
     dir (Some (rom.File bytes)) h = absurd (cc)
+
     some : (found : Option RomNode) → rom_shape found ≢ 0 → is_some found ≡ true
     some None h = absurd (h refl)
     some (Some x) h = refl
@@ -113,10 +110,12 @@ kept-tree n volume closed = valued-tree (λ p x. kept_origin volume x) kept_shap
     same : (p : Path) (x : KeptNode) → content_shape (Some (kept_origin volume x)) ≡ kept_shape (Some x)
     same p kept.Dir = refl
     same p (kept.File cell) = refl
+
     dir : (found : Option KeptNode) → is_kept_dir found ≡ true → kept_shape found ≡ 1
     dir None h = absurd (cc)
     dir (Some kept.Dir) h = refl
     dir (Some (kept.File cell)) h = absurd (cc)
+
     some : (found : Option KeptNode) → kept_shape found ≢ 0 → is_some found ≡ true
     some None h = absurd (h refl)
     some (Some x) h = refl
@@ -155,8 +154,8 @@ device-fold : (n : Namespace) (from : ℕ) (devices : List DeviceState) (content
 device-fold n from [] content h f = f
 device-fold n from (d ∷ devices) content h f =
     device-fold n (from + 1) devices (put_device content (from, d)) (λ k l.
-      let next = h (suc k) (omega (arith, l)) in
-      (omega (arith, next), ap (λ x. slice_index_or n.devices x no_device) (omega arith) ∙ next.1))
+    let next = h (suc k) (omega (arith, l)) in
+    (omega (arith, next), ap (λ x. slice_index_or n.devices x no_device) (omega arith) ∙ next.1))
     (record {
       all = put-devices n (d.name ∷ []) (Some (origin.Device from)) content (record {
         device = from;

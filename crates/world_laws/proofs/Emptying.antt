@@ -1,38 +1,28 @@
 -- The files of a mount are freed, one row after the other.
-use Rattle.std.proofs.Common.{◌≡◌, ◌≢◌, ℕ, zero, suc, ◌+◌, ◌-◌, ◌*◌, ◌<◌, ◌≤◌, Bool, true, false, not, ◌||◌, ◌&&◌, ◌==◌, Option, Some, None, is_some, IsSomeAnd, List, [], ◌∷◌, ◌++◌, length, map, filter, fold, slice_index_or, slice_set, ◌⊎◌, inl, inr, if◌then◌else◌, refl, sym, ap, subst, ◌∙◌, arith}
-use Rattle.std.proofs.lemmas.List.{append-nil, get_or_past, length-set}
+use Rattle.std.proofs.Common.{◌≡◌, ◌≢◌, ℕ, ◌+◌, ◌-◌, ◌<◌, ◌≤◌, Bool, true, false, Option, Some, None, is_some, IsSomeAnd, List, [], ◌∷◌, ◌++◌, length, fold, slice_index_or, slice_set, ◌⊎◌, inl, inr, refl, sym, ap, subst, ◌∙◌, arith}
+use Rattle.std.proofs.lemmas.List.{length-set}
 use Rattle.std.proofs.lemmas.List.Sums.{fold-append, sum_by-cons}
-use Rattle.std.specs.FinMap.Entries.{find as value_at}
-use Rattle.std.specs.List.{list_any, enumerate_from}
 use Rattle.std.specs.Prelude.{count_by}
-use Rattle.vfs_base.specs.Path.{Path, path_cmp}
-use Rattle.vfs_base.specs.declared.ids.FileId.{FileId}
-use Rattle.vfs_base.specs.declared.kinds.Kind.{Kind}
-use Rattle.vfs_base.specs.declared.kinds.NodeKind.TheVariants as node
-use Rattle.vfs_model.specs.Boxes.{BoxesPlaced, cell_files, is_backed_by, lies_on_cell, lies_on_device, one_if}
-use Rattle.vfs_model.specs.Consistency.{IsLive, LivesFit, ReferencesLive, fits_mount, mount_numbered}
-use Rattle.vfs_model.specs.FileLife.{Rows, after_end, backing_of, end_of_unmounted, free_row, no_device, no_volume, volume_at, with_device}
+use Rattle.vfs_model.specs.Boxes.{cell_files, is_backed_by, lies_on_cell, lies_on_device, one_if}
+use Rattle.vfs_model.specs.Consistency.{fits_mount, mount_numbered}
+use Rattle.vfs_model.specs.FileLife.{after_end, backing_of, end_of_unmounted, free_row, no_device, no_volume, volume_at, with_device}
 use Rattle.vfs_model.specs.Homes.{cell_capacity, change_row}
-use Rattle.vfs_model.specs.Namespace.{file_of, life_at, tree_of}
-use Rattle.vfs_model.specs.UmountSteps.{is_of_mount, rows_of_mount}
+use Rattle.vfs_model.specs.Namespace.{file_of, life_at}
+use Rattle.vfs_model.specs.UmountSteps.{is_of_mount}
 use Rattle.vfs_model.specs.declared.namespace.Backing.{Backing}
 use Rattle.vfs_model.specs.declared.namespace.Backing.TheVariants as backing
-use Rattle.vfs_model.specs.declared.namespace.End.{End}
-use Rattle.vfs_model.specs.declared.namespace.End.TheVariants as end
 use Rattle.vfs_model.specs.declared.namespace.LiveFile.{LiveFile}
-use Rattle.vfs_model.specs.declared.namespace.Mount.{Mount}
 use Rattle.vfs_model.specs.declared.namespace.Namespace.{Namespace}
-use Rattle.vfs_model.specs.declared.namespace.Reference.{Reference}
 use Rattle.vfs_model.specs.declared.namespace.RowChange.{RowChange}
 use Rattle.vfs_model.specs.declared.namespace.RowChange.TheVariants as change
 use Rattle.vfs_model.specs.declared.world.World.{World}
 use Rattle.world_laws.proofs.Agreeing.{Agrees, Ends, agrees-ended, free-agrees}
 use Rattle.world_laws.proofs.Beside.{folders-beside}
-use Rattle.world_laws.proofs.Binding.{Rest, lives-set, out-here, out-other, rest-beside, some-life}
+use Rattle.world_laws.proofs.Binding.{Rest, out-here, out-other, rest-beside}
 use Rattle.world_laws.proofs.Freeing.{alive-freed, backed-by, cells-freed, devices-freed, without_life}
-use Rattle.world_laws.proofs.Lists.{number-itself, other-number, same-number, same-or-other, set-here, set-there, some-within}
+use Rattle.world_laws.proofs.Lists.{number-itself, other-number, same-number, same-or-other, set-here, set-there}
 use Rattle.world_laws.proofs.Standing.{Held, IsUsed, Linked, LinkedIn}
-use Rattle.world_laws.proofs.Taking.{BoxesBut, CellsPlaced, DevicesPlaced, but-device, but-life, with_life}
+use Rattle.world_laws.proofs.Taking.{BoxesBut, DevicesPlaced, but-device, but-life}
 
 -- a row is one of the list
 abbrev pub InRows : List ℕ → ℕ → Type 0
@@ -139,16 +129,16 @@ devices-ended n row l devices (backing.Device one) e device d =
     let before = devices device within in
     elim (same-or-other device one) [
       | inr h ↦
-        let none : one_if (lies_on_device device (backing_of (life_at n row))) ≡ 0 = ap (λ x. one_if (lies_on_device device x)) e ∙ ap one_if (other-number one device (λ f. h (sym f))) in
-        let same = ap one_if (out-other false m one device h) in
-        omega (arith, freed, none, before, same)
+          let none : one_if (lies_on_device device (backing_of (life_at n row))) ≡ 0 = ap (λ x. one_if (lies_on_device device x)) e ∙ ap one_if (other-number one device (λ f. h (sym f))) in
+          let same = ap one_if (out-other false m one device h) in
+          omega (arith, freed, none, before, same)
       | inl h ↦
-        let counts : one_if (lies_on_device device (backing_of (life_at n row))) ≡ 1 =
-        ap (λ x. one_if (lies_on_device device x)) (e ∙ ap backing.Device (sym h)) ∙ ap one_if (number-itself device) in
-        let is : one_if (slice_index_or (with_device false m one).devices device no_device).is_out ≡ 0 =
-        ap (λ x. one_if (slice_index_or (with_device false m x).devices device no_device).is_out) (sym h) ∙ ap one_if (out-here false m device within) in
-        let most : one_if (slice_index_or n.devices device no_device).is_out ≤ 1 = at-most (slice_index_or n.devices device no_device).is_out in
-        omega (arith, freed, counts, is, before, most)
+          let counts : one_if (lies_on_device device (backing_of (life_at n row))) ≡ 1 =
+          ap (λ x. one_if (lies_on_device device x)) (e ∙ ap backing.Device (sym h)) ∙ ap one_if (number-itself device) in
+          let is : one_if (slice_index_or (with_device false m one).devices device no_device).is_out ≡ 0 =
+          ap (λ x. one_if (slice_index_or (with_device false m x).devices device no_device).is_out) (sym h) ∙ ap one_if (out-here false m device within) in
+          let most : one_if (slice_index_or n.devices device no_device).is_out ≤ 1 = at-most (slice_index_or n.devices device no_device).is_out in
+          omega (arith, freed, counts, is, before, most)
     ]
 
 ended-same : (m : Namespace) (b : Backing) → ((after_end m (end_of_unmounted b)).lives ≡ m.lives) × ((after_end m (end_of_unmounted b)).trees ≡ m.trees)
@@ -206,9 +196,11 @@ empty-one number m row rows changes f =
               let alive = f.rest.live.linked at path id kind h in
               alive-freed m row id kind at (apart row id.row left.0 alive.row (λ e. f.unlinked row (inl refl) (record { number = at; path = path; id = id; kind = kind; there = h; is = e }) tt)) alive;
           held = λ place reference h.
-              let good = f.rest.live.held place reference h in
-              (alive-freed m row reference.file reference.kind reference.mount
-                (apart row reference.file.row left.0 good.0.row (λ e. f.unheld row (inl refl) (record { place = place; reference = reference; there = h; is = e }) tt)) good.0, good.1);
+              let good = f.rest.live.held place reference h in (
+                alive-freed m row reference.file reference.kind reference.mount
+                    (apart row reference.file.row left.0 good.0.row (λ e. f.unheld row (inl refl) (record { place = place; reference = reference; there = h; is = e }) tt)) good.0,
+                good.1,
+              );
         };
         used = λ other l h. used-left m row other rows within left.0 l (same-or-other (other - 1) (row - 1)) f.rest.used h;
         alone = f.rest.alone;
@@ -247,15 +239,18 @@ empty-one number m row rows changes f =
   where
     apart : (row other : ℕ) → 0 < row → 0 < other → (other ≡ row → ⊥) → other - 1 ≢ row - 1
     apart row other l k h e = h (omega (arith, l, k, e))
+
     gone : (other : ℕ) (life : LiveFile) → other - 1 ≡ row - 1 → slice_index_or (slice_set m.lives (row - 1) None) (other - 1) None ≢ Some life
     gone other life e h =
         let none : slice_index_or (slice_set m.lives (row - 1) None) (other - 1) None ≡ None =
         ap (λ x. slice_index_or (slice_set m.lives (row - 1) None) x None) e ∙ set-here m.lives (row - 1) None None (subst (λ x. row - 1 < x) (sym f.rest.sizes.lives) f.rows.1) in
         absurd (cc)
+
     lives-before : (other : ℕ) (life : LiveFile) → slice_index_or (slice_set m.lives (row - 1) None) (other - 1) None ≡ Some life → life.mount ≢ number → (other - 1 ≡ row - 1) ⊎ (other - 1 ≢ row - 1) →
         IsSomeAnd (mount_numbered m life.mount) (λ mount. fits_mount m life mount ≡ true)
     lives-before other life h away (inl e) = absurd (gone other life e h)
     lives-before other life h away (inr e) = f.lives other life (sym (set-there m.lives (row - 1) (other - 1) None None e) ∙ h) away
+
     whole-left : (other : ℕ) (life : LiveFile) → 0 < other → slice_index_or (slice_set m.lives (row - 1) None) (other - 1) None ≡ Some life → life.mount ≡ number → (other - 1 ≡ row - 1) ⊎ (other - 1 ≢ row - 1) → InRows rows other
     whole-left other life l h e (inl k) = absurd (gone other life k h)
     whole-left other life l h e (inr k) = later (f.whole other life l (sym (set-there m.lives (row - 1) (other - 1) None None k) ∙ h) e)

@@ -1,5 +1,5 @@
 -- A step of one file keeps its generation and its kind, and its bytes within its capacity.
-use Rattle.std.proofs.Common.{◌≡◌, ℕ, zero, suc, ◌+◌, ◌-◌, ◌≤◌, ◌<◌, ◌==◌, min, Bool, true, false, not, ◌&&◌, ◌||◌, Option, Some, None, List, [], ◌∷◌, ◌++◌, length, take, drop, replicate, Result, Ok, Err, is_ok, if◌then◌else◌, refl, sym, ap, ◌∙◌, arith, length-append, length-drop}
+use Rattle.std.proofs.Common.{◌≡◌, ℕ, ◌+◌, ◌-◌, ◌≤◌, ◌==◌, min, Bool, true, false, ◌&&◌, ◌||◌, Option, Some, None, List, [], ◌∷◌, ◌++◌, length, take, drop, replicate, Result, Ok, Err, is_ok, if◌then◌else◌, refl, ap, ◌∙◌, arith, length-append, length-drop}
 use Rattle.std.specs.Prelude.{nat_lt, nat_le}
 use Rattle.std.proofs.lemmas.Bool.{leb-true, le-leb, ltb-true, ltb-false}
 use Rattle.std.proofs.lemmas.List.{length-take, length-replicate}
@@ -8,18 +8,17 @@ use Rattle.vfs_base.specs.declared.entry.Mark.TheVariants as mark
 use Rattle.vfs_base.specs.declared.errno.Errno.{Errno}
 use Rattle.vfs_base.specs.declared.errno.Errno.TheVariants as errno
 use Rattle.vfs_base.specs.declared.kinds.Kind.{Kind}
-use Rattle.vfs_base.specs.declared.kinds.Kind.TheVariants as kind
 use Rattle.vfs_base.specs.declared.step.Step.{Step}
 use Rattle.vfs_base.specs.declared.step.Step.TheVariants as step
 use Rattle.vfs_model.specs.Boxes.{file_capacity}
-use Rattle.vfs_model.specs.Chain.{◌>>◌, refuse◌when◌}
-use Rattle.vfs_model.specs.Consistency.{agrees, same_kind}
-use Rattle.vfs_model.specs.FileMoves.{clear_step, file_step, fits_file, is_before_end, is_on_cell, is_on_device, move, move_bytes, move_device, stopped_step}
-use Rattle.vfs_model.specs.FileStep.{bytes_count, absent_refusals, bytes_refusals, count_of, cut_or_padded, file_refusals, full_errno, is_of_generation, is_rom, moved_count, refused_file, step_file, trunc_refusals, write_refusals, written_at}
+use Rattle.vfs_model.specs.Chain.{refuse◌when◌}
+use Rattle.vfs_model.specs.Consistency.{agrees}
+use Rattle.vfs_model.specs.FileMoves.{clear_step, file_step, fits_file, is_before_end, is_on_device, move, move_bytes, move_device}
+use Rattle.vfs_model.specs.FileStep.{bytes_count, absent_refusals, bytes_refusals, count_of, cut_or_padded, file_refusals, full_errno, is_of_generation, is_rom, moved_count, refused_file, step_file, written_at}
 use Rattle.vfs_model.specs.declared.namespace.LiveFile.{LiveFile}
 use Rattle.vfs_model.specs.declared.world.FileState.{FileState}
 use Rattle.vfs_model.specs.declared.world.FileState.TheVariants as file
-use Rattle.world_laws.proofs.Passing.{and-both, and-first, and-second, either-passed, refuse-passed, then-first, then-rest}
+use Rattle.world_laws.proofs.Passing.{and-both, and-first, and-second, either-passed, refuse-passed, then-rest}
 
 length-cut : (len : ℕ) (bytes : List ℕ) → length (cut_or_padded len bytes) ≡ len
 length-cut len bytes =
@@ -35,7 +34,7 @@ length-written capacity off (byte ∷ piece) bytes h l =
     let rest : length (drop (off + length (byte ∷ piece)) bytes) ≡ length bytes - (off + length (byte ∷ piece)) = length-drop (off + length (byte ∷ piece)) bytes in
     let front : length (cut_or_padded off bytes ++ byte ∷ piece) ≡ length (cut_or_padded off bytes) + length (byte ∷ piece) = length-append (cut_or_padded off bytes) (byte ∷ piece) in
     let all : length (cut_or_padded off bytes ++ byte ∷ piece ++ drop (off + length (byte ∷ piece)) bytes) ≡
-        length (cut_or_padded off bytes ++ byte ∷ piece) + length (drop (off + length (byte ∷ piece)) bytes) =
+    length (cut_or_padded off bytes ++ byte ∷ piece) + length (drop (off + length (byte ∷ piece)) bytes) =
     length-append (cut_or_padded off bytes ++ byte ∷ piece) (drop (off + length (byte ∷ piece)) bytes) in
     let cut : length (cut_or_padded off bytes) ≡ off = length-cut off bytes in
     omega (arith, rest, front, all, cut)

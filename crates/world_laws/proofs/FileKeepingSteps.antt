@@ -1,22 +1,13 @@
 -- Opening, mapping and giving up keep what holds between steps.
-use Rattle.std.proofs.Common.{◌≡◌, ◌≢◌, ℕ, ◌+◌, ◌-◌, ◌*◌, ◌<◌, ◌≤◌, Bool, true, false, not, ◌||◌, ◌&&◌, ◌==◌, Option, Some, None, is_some, is_none, IsSomeAnd, List, [], ◌∷◌, ◌++◌, length, map, zip, take, drop, find, fold, slice_index_or, slice_set, ◌⊎◌, inl, inr, Result, Ok, Err, if◌then◌else◌, refl, sym, ap, subst, ◌∙◌, arith}
-use Rattle.std.proofs.lemmas.Bool.{ltb-false, leb-false, ltb-true}
+use Rattle.std.proofs.Common.{◌≡◌, ℕ, ◌+◌, ◌-◌, ◌*◌, ◌<◌, ◌≤◌, Bool, true, false, ◌&&◌, ◌==◌, Option, Some, None, is_none, List, length, take, drop, slice_index_or, ◌⊎◌, inl, inr, if◌then◌else◌, refl, sym, ap, ◌∙◌, arith}
+use Rattle.std.proofs.lemmas.Bool.{ltb-false}
 use Rattle.std.proofs.lemmas.List.{get_or_past, get_or-take, get_or-drop, length-take}
 use Rattle.std.proofs.lemmas.List.Sums.{passes_at_first}
-use Rattle.std.specs.FinMap.Entries.{find as value_at}
-use Rattle.std.specs.List.{list_any, position_or_len}
-use Rattle.std.specs.Prelude.{nat_lt, nat_le, slice_range}
-use Rattle.vfs_base.specs.Path.{Path, path_cmp}
-use Rattle.vfs_base.specs.declared.errno.Errno.{Errno}
+use Rattle.std.specs.List.{position_or_len}
+use Rattle.std.specs.Prelude.{nat_lt, slice_range}
 use Rattle.vfs_base.specs.declared.errno.Errno.TheVariants as errno
-use Rattle.vfs_base.specs.declared.ids.FileId.{FileId}
 use Rattle.vfs_base.specs.declared.ids.HoldId.{HoldId}
-use Rattle.vfs_base.specs.declared.kinds.Kind.{Kind}
-use Rattle.vfs_base.specs.declared.kinds.NodeKind.{NodeKind}
-use Rattle.vfs_base.specs.declared.kinds.NodeKind.TheVariants as node
-use Rattle.vfs_model.specs.Chain.{◌>>=◌, ◌>>◌, refuse◌when◌, refuse_by, wanted}
-use Rattle.vfs_model.specs.FileLife.{free_if_unused, least_free_row}
-use Rattle.vfs_model.specs.NameSteps.{done}
+use Rattle.vfs_model.specs.Chain.{refuse◌when◌}
 use Rattle.vfs_model.specs.Namespace.{references_of, with_reference}
 use Rattle.vfs_model.specs.OpenStep.{least_free_number}
 use Rattle.vfs_model.specs.ReferenceSteps.{close_step, give_up_step, in_role, is_device_kind, map_step, reference_at, same_role, unmap_step}
@@ -24,11 +15,11 @@ use Rattle.vfs_model.specs.declared.namespace.Namespace.{Namespace}
 use Rattle.vfs_model.specs.declared.namespace.Reference.{Reference}
 use Rattle.vfs_model.specs.declared.namespace.Role.{Role}
 use Rattle.vfs_model.specs.declared.namespace.Role.TheVariants as role
-use Rattle.world_laws.proofs.Keeping.{Keeps, Kept, bind-kept, live-row, lost-kept, names-kept, same-kept, then-kept, wanted-kept}
-use Rattle.world_laws.proofs.Lists.{below-or-past, same-some, some-within}
-use Rattle.world_laws.proofs.Passing.{and-first, and-second, refuse-passed, then-first, then-rest}
-use Rattle.world_laws.proofs.Referring.{IsGood, refer-stands, unrefer-stands, with_place}
-use Rattle.world_laws.proofs.Standing.{Nothing, Only, Stands}
+use Rattle.world_laws.proofs.Keeping.{Kept, live-row, lost-kept, names-kept, then-kept, wanted-kept}
+use Rattle.world_laws.proofs.Lists.{below-or-past, some-within}
+use Rattle.world_laws.proofs.Passing.{refuse-passed}
+use Rattle.world_laws.proofs.Referring.{refer-stands, unrefer-stands}
+use Rattle.world_laws.proofs.Standing.{Nothing, Stands}
 
 -- the place of a session's reference
 abbrev pub place_of : ℕ → ℕ → ℕ

@@ -1,5 +1,5 @@
 -- A new mount is filled with all that it begins with.
-use Rattle.std.proofs.Common.{◌≡◌, ◌≢◌, ℕ, zero, suc, ◌+◌, ◌-◌, ◌*◌, ◌<◌, ◌≤◌, Bool, true, false, Option, Some, None, List, [], ◌∷◌, ◌++◌, length, fold, slice_index_or, slice_set, refl, sym, ap, subst, ◌∙◌, arith, append_assoc}
+use Rattle.std.proofs.Common.{◌≡◌, ℕ, zero, suc, ◌+◌, ◌<◌, Option, Some, None, List, [], ◌∷◌, ◌++◌, length, fold, slice_set, refl, sym, ap, subst, ◌∙◌, arith, append_assoc}
 use Rattle.std.proofs.lemmas.List.{append-nil}
 use Rattle.std.proofs.lemmas.List.Sums.{fold-append}
 use Rattle.std.specs.FinMap.Entries.{put}
@@ -10,8 +10,8 @@ use Rattle.vfs_model.specs.Content.{Content}
 use Rattle.vfs_model.specs.FileLife.{Rows, after_taking, bind_row, least_free_row, next_file}
 use Rattle.vfs_model.specs.Homes.{cell_capacity, change_row}
 use Rattle.vfs_model.specs.Lookup.{with_tree}
-use Rattle.vfs_model.specs.MountStep.{add_content, bind_content, with_entry}
-use Rattle.vfs_model.specs.Namespace.{Tree, tree_of}
+use Rattle.vfs_model.specs.MountStep.{add_content, with_entry}
+use Rattle.vfs_model.specs.Namespace.{Tree}
 use Rattle.vfs_model.specs.OpenStep.{kind_of}
 use Rattle.vfs_model.specs.declared.namespace.Backing.{Backing}
 use Rattle.vfs_model.specs.declared.namespace.Backing.TheVariants as backing
@@ -120,5 +120,5 @@ module _ (mount : Mount) where
         pages = λ volume cell. later.pages volume cell ∙ taken-pages (with_life m row (Some (life_of mount begins)) (next_generations m row)) (life_of mount begins).backing volume cell;
         files = λ v a. subst (λ r. Agrees (fold change_row v (fold adds r left).changes) later.last) (sym rows)
             (later.files v (subst (λ w. Agrees w bound) (sym (fold-append change_row v changes (change.Bind (next_file m row) begins ∷ [])))
-              (bind-agrees (fold change_row v changes) m row (life_of mount begins) begins free.small f.rest.sizes.lives f.rest.sizes.generations (begins-fit mount m p begins f.fit.0) a)));
+            (bind-agrees (fold change_row v changes) m row (life_of mount begins) begins free.small f.rest.sizes.lives f.rest.sizes.generations (begins-fit mount m p begins f.fit.0) a)));
       }

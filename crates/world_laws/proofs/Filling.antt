@@ -1,7 +1,7 @@
 -- A new mount is filled: each file that it begins with gets a row.
-use Rattle.std.proofs.Common.{◌≡◌, ◌≢◌, ℕ, zero, suc, ◌+◌, ◌-◌, ◌<◌, ◌≤◌, Bool, true, false, cond, not, ◌||◌, ◌&&◌, ◌==◌, T, Option, Some, None, is_some, IsSomeAnd, List, [], ◌∷◌, ◌++◌, length, fold, slice_index_or, slice_set, ◌⊎◌, inl, inr, if◌then◌else◌, refl, sym, ap, subst, ◌∙◌, arith, length-append, append_assoc}
+use Rattle.std.proofs.Common.{◌≡◌, ◌≢◌, ℕ, ◌+◌, ◌-◌, ◌<◌, ◌≤◌, Bool, true, false, cond, ◌&&◌, ◌==◌, T, Option, Some, None, is_some, IsSomeAnd, List, [], ◌∷◌, ◌++◌, length, slice_index_or, slice_set, ◌⊎◌, inl, inr, refl, sym, ap, subst, ◌∙◌, arith, length-append, append_assoc}
 use Rattle.std.proofs.lemmas.Cmp.{tied_itself}
-use Rattle.std.proofs.lemmas.List.{append-nil, length-set}
+use Rattle.std.proofs.lemmas.List.{length-set}
 use Rattle.std.proofs.lemmas.List.Sums.{sum_by-cons}
 use Rattle.std.specs.FinMap.Entries.{below_all, find as value_at, find-append, find-put, is_sorted, is_sorted-put, length-put, put}
 use Rattle.std.specs.Ordering.{eq_by_cmp, is_eq, is_lt}
@@ -11,10 +11,8 @@ use Rattle.std.specs.declared.cmp.Ordering.TheVariants.{Less, Equal, Greater}
 use Rattle.vfs_base.specs.Path.{Path, path_cmp}
 use Rattle.vfs_base.specs.PathLaws.{path_cmp_exact, path_cmp_total}
 use Rattle.vfs_base.specs.declared.ids.FileId.{FileId}
-use Rattle.vfs_base.specs.declared.kinds.FsType.{FsType}
 use Rattle.vfs_base.specs.declared.kinds.FsType.TheVariants as fs
 use Rattle.vfs_base.specs.declared.kinds.Kind.{Kind}
-use Rattle.vfs_base.specs.declared.kinds.Kind.TheVariants as kind
 use Rattle.vfs_base.specs.declared.kinds.NodeKind.{NodeKind}
 use Rattle.vfs_base.specs.declared.kinds.NodeKind.TheVariants as node
 use Rattle.vfs_model.specs.Boxes.{cell_files, fits_kind, lies_on_cell, one_if}
@@ -22,7 +20,7 @@ use Rattle.vfs_model.specs.Consistency.{IsLive, LivesFit, fits_mount, mount_numb
 use Rattle.vfs_model.specs.Content.{Content, file_count}
 use Rattle.vfs_model.specs.FileLife.{after_taking, bind_row, least_free_row, next_file, no_device, volume_at, volume_named, with_cell, with_device}
 use Rattle.vfs_model.specs.MountStep.{origin_backing}
-use Rattle.vfs_model.specs.Namespace.{Tree, generation_at, life_at, tree_of}
+use Rattle.vfs_model.specs.Namespace.{Tree, generation_at, life_at}
 use Rattle.vfs_model.specs.OpenStep.{kind_of}
 use Rattle.vfs_model.specs.declared.namespace.Backing.{Backing}
 use Rattle.vfs_model.specs.declared.namespace.Backing.TheVariants as backing
@@ -35,13 +33,13 @@ use Rattle.world_laws.proofs.Agreeing.{Begins}
 use Rattle.world_laws.proofs.Beside.{folders-beside}
 use Rattle.world_laws.proofs.Binding.{Rest, alive-bound, apart-cell, but-taken, cells-bound, devices-same, devices-taken, lives-set, lives-taken, live-bound, next_generations, out-other, own-cell, rest-taken, some-life, this-or-other}
 use Rattle.world_laws.proofs.FreeRows.{free_count, one-less, some-free}
-use Rattle.world_laws.proofs.Lists.{number-itself, other-number, same-or-other, same-some, set-here, set-there}
-use Rattle.world_laws.proofs.OpenKeeping.{FreeRow, kind-itself, taken-lives, taken-trees}
+use Rattle.world_laws.proofs.Lists.{number-itself, same-or-other, same-some, set-here, set-there}
+use Rattle.world_laws.proofs.OpenKeeping.{FreeRow, kind-itself, taken-trees}
 use Rattle.world_laws.proofs.Passing.{and-both}
 use Rattle.world_laws.proofs.TreeParts.{same-or-other-path}
 use Rattle.vfs_model.proofs.Trees.{at-put-here, at-put-other}
 use Rattle.world_laws.proofs.Standing.{IsUsed, Linked, LinkedIn}
-use Rattle.world_laws.proofs.Taking.{BoxesBut, CellsPlaced, DevicesPlaced, but-life, cell-files, cell-named, cell-pages, set-at, spare-here, spare-other, with_life}
+use Rattle.world_laws.proofs.Taking.{BoxesBut, DevicesPlaced, but-life, cell-files, cell-named, cell-pages, set-at, spare-here, spare-other, with_life}
 
 -- the row of a file of the new tree
 pub record InTree (tree : Tree) (row : ℕ) : Type 0 where
@@ -181,8 +179,8 @@ module _ (mount : Mount) where
       ((q ≡ p) × (new ≡ node.File id kind)) ⊎ (value_at path_cmp q tree ≡ Some (node.File id kind))
   put-file tree p q new id kind h = elim (same-or-other-path q p) [
     | inl e ↦
-      let there : Some new ≡ Some (node.File id kind) = sym (at-put-here p new tree) ∙ ap (λ r. value_at path_cmp r (put path_cmp p new tree)) (sym e) ∙ h in
-      inl (e, same-some new (node.File id kind) there)
+        let there : Some new ≡ Some (node.File id kind) = sym (at-put-here p new tree) ∙ ap (λ r. value_at path_cmp r (put path_cmp p new tree)) (sym e) ∙ h in
+        inl (e, same-some new (node.File id kind) there)
     | inr e ↦ inr (sym (at-put-other p q new tree e) ∙ h)
   ]
 
@@ -335,7 +333,7 @@ module _ (mount : Mount) where
   cells-filled : (m : Namespace) (row : ℕ) (begins : Origin) (p : Path) (left : Content) (generations : List ℕ) → row - 1 < length m.lives → life_at m row ≡ None →
       ((volume : ℕ) → length (volume_at m volume).spare ≡ length (volume_at m volume).pages) →
       ((volume cell : ℕ) → volume < length m.volumes → cell < length (volume_at m volume).pages →
-        cell_files m volume cell + pending ((p, Some begins) ∷ left) volume cell + one_if (slice_index_or (volume_at m volume).spare cell false) ≡ 1) →
+      cell_files m volume cell + pending ((p, Some begins) ∷ left) volume cell + one_if (slice_index_or (volume_at m volume).spare cell false) ≡ 1) →
       (b : Backing) → origin_backing begins ≡ b → (volume cell : ℕ) →
       volume < length (after_taking (with_life m row (Some (life_of begins)) generations) b).volumes → cell < length (volume_at (after_taking (with_life m row (Some (life_of begins)) generations) b) volume).pages →
       cell_files (after_taking (with_life m row (Some (life_of begins)) generations) b) volume cell + pending left volume cell
@@ -365,18 +363,18 @@ module _ (mount : Mount) where
       let before = cells volume cell within in_pages in
       elim (this-or-other volume cell w d) [
         | inl h ↦
-          let counts : one_if (lies_on_cell volume cell (origin_backing begins)) ≡ 1 =
-          ap (λ x. one_if (lies_on_cell volume cell x)) (e ∙ ap (λ x. backing.Cell x d) (sym h.0) ∙ ap (λ x. backing.Cell volume x) (sym h.1)) ∙ ap one_if (own-cell volume cell) in
-          let spare : cell < length (volume_at m volume).spare = subst (λ x. cell < x) (sym (spares volume)) in_pages in
-          let is : one_if (slice_index_or (volume_at (with_cell false t w d) volume).spare cell false) ≡ 0 =
-          ap (λ x. one_if (slice_index_or (volume_at (with_cell false t w x) volume).spare cell false)) (sym h.1)
-          ∙ ap (λ x. one_if (slice_index_or (volume_at (with_cell false t x cell) volume).spare cell false)) (sym h.0) ∙ ap one_if (spare-here false t volume cell within spare) in
-          omega (arith, bound, same, one, before, counts, is)
+            let counts : one_if (lies_on_cell volume cell (origin_backing begins)) ≡ 1 =
+            ap (λ x. one_if (lies_on_cell volume cell x)) (e ∙ ap (λ x. backing.Cell x d) (sym h.0) ∙ ap (λ x. backing.Cell volume x) (sym h.1)) ∙ ap one_if (own-cell volume cell) in
+            let spare : cell < length (volume_at m volume).spare = subst (λ x. cell < x) (sym (spares volume)) in_pages in
+            let is : one_if (slice_index_or (volume_at (with_cell false t w d) volume).spare cell false) ≡ 0 =
+            ap (λ x. one_if (slice_index_or (volume_at (with_cell false t w x) volume).spare cell false)) (sym h.1)
+            ∙ ap (λ x. one_if (slice_index_or (volume_at (with_cell false t x cell) volume).spare cell false)) (sym h.0) ∙ ap one_if (spare-here false t volume cell within spare) in
+            omega (arith, bound, same, one, before, counts, is)
         | inr h ↦
-          let none : one_if (lies_on_cell volume cell (origin_backing begins)) ≡ 0 = ap (λ x. one_if (lies_on_cell volume cell x)) e ∙ ap one_if (apart-cell volume cell w d h) in
-          let is : one_if (slice_index_or (volume_at (with_cell false t w d) volume).spare cell false) ≡ one_if (slice_index_or (volume_at m volume).spare cell false) =
-          ap one_if (spare-other false t w d volume cell h) in
-          omega (arith, bound, same, one, before, none, is)
+            let none : one_if (lies_on_cell volume cell (origin_backing begins)) ≡ 0 = ap (λ x. one_if (lies_on_cell volume cell x)) e ∙ ap one_if (apart-cell volume cell w d h) in
+            let is : one_if (slice_index_or (volume_at (with_cell false t w d) volume).spare cell false) ≡ one_if (slice_index_or (volume_at m volume).spare cell false) =
+            ap one_if (spare-other false t w d volume cell h) in
+            omega (arith, bound, same, one, before, none, is)
       ]
 
   devices-filled : (m : Namespace) (row : ℕ) (begins : Origin) (p : Path) (generations : List ℕ) → row - 1 < length m.lives → life_at m row ≡ None → FitsOrigin m p begins → DevicesPlaced m →
@@ -471,14 +469,18 @@ module _ (mount : Mount) where
         cells = cells-filled m row begins p left generations within free.free f.boxes.spares f.cells b refl;
         lives = lives-taken t b (lives-set m row (Some life) generations
             (λ other e. subst (λ x. IsSomeAnd (mount_numbered m x.mount) (λ y. fits_mount m x y ≡ true)) (same-some life other e)
-              (subst (λ found. IsSomeAnd found (λ y. fits_mount m life y ≡ true)) (sym f.found) (mount-fits m p begins f.fit.0))) f.lives);
+            (subst (λ found. IsSomeAnd found (λ y. fits_mount m life y ≡ true)) (sym f.found) (mount-fits m p begins f.fit.0))) f.lives);
         found = taken-found t b mount.number ∙ f.found;
         files = λ q other kind h. elim (put-file tree p q (node.File id (kind_of mount.fs)) other kind h) [
-          | inl x ↦ (new-live m row begins p f free other kind x.1,
-              λ linked u. let before = linked-before m row life generations b other.row linked in
-                no-live m row before.id before.kind before.number free.free (f.rest.live.linked before.number before.path before.id before.kind before.there) (before.is ∙ ap (λ y. y.row) (sym (file-id id other (kind_of mount.fs) kind x.1))))
-          | inr x ↦ (alive-more t b other kind mount.number (alive-bound-fill m row (Some life) other kind free.free (f.files q other kind x).0),
-              λ linked u. (f.files q other kind x).1 (linked-before m row life generations b other.row linked) tt)
+          | inl x ↦ (
+            new-live m row begins p f free other kind x.1,
+            λ linked u. let before = linked-before m row life generations b other.row linked in
+                no-live m row before.id before.kind before.number free.free (f.rest.live.linked before.number before.path before.id before.kind before.there) (before.is ∙ ap (λ y. y.row) (sym (file-id id other (kind_of mount.fs) kind x.1))),
+          )
+          | inr x ↦ (
+            alive-more t b other kind mount.number (alive-bound-fill m row (Some life) other kind free.free (f.files q other kind x).0),
+            λ linked u. (f.files q other kind x).1 (linked-before m row life generations b other.row linked) tt,
+          )
         ];
         alone = λ a c one two kind like h k r. elim (put-file tree p a (node.File id (kind_of mount.fs)) one kind h) [
           | inl x ↦ elim (put-file tree p c (node.File id (kind_of mount.fs)) two like k) [

@@ -1,12 +1,12 @@
 -- How many rows are free, and one of them less after one was bound.
-use Rattle.std.proofs.Common.{◌≡◌, ℕ, zero, suc, ◌+◌, ◌-◌, ◌<◌, ◌≤◌, Bool, true, false, not, ◌&&◌, Option, Some, None, is_none, List, [], ◌∷◌, ◌++◌, length, map, zip, slice_index_or, slice_set, refl, sym, ap, subst, ◌∙◌, arith}
+use Rattle.std.proofs.Common.{◌≡◌, ℕ, zero, suc, ◌+◌, ◌-◌, ◌<◌, Bool, true, false, Some, None, List, [], ◌∷◌, length, map, zip, slice_index_or, slice_set, refl, sym, ap, subst, ◌∙◌, arith}
 use Rattle.std.proofs.lemmas.List.{map-set}
 use Rattle.std.proofs.lemmas.List.Sums.{passes_at_first, sum_by-cons}
 use Rattle.std.specs.List.{position_or_len}
 use Rattle.std.specs.Prelude.{count_by}
 use Rattle.vfs_model.specs.Boxes.{one_if}
 use Rattle.vfs_model.specs.FileLife.{after_taking, bind_row, free_rows, is_free_row, least_free_row}
-use Rattle.vfs_model.specs.Namespace.{generation_at, life_at}
+use Rattle.vfs_model.specs.Namespace.{generation_at}
 use Rattle.vfs_model.specs.declared.namespace.Backing.{Backing}
 use Rattle.vfs_model.specs.declared.namespace.LiveFile.{LiveFile}
 use Rattle.vfs_model.specs.declared.namespace.Namespace.{Namespace}

@@ -1,22 +1,21 @@
 -- A live file that nothing names is freed.
-use Rattle.std.proofs.Common.{◌≡◌, ◌≢◌, ℕ, ◌+◌, ◌-◌, ◌<◌, ◌≤◌, ◌==◌, Bool, true, false, ◌&&◌, ◌||◌, Option, Some, None, is_some, IsSomeAnd, List, [], ◌∷◌, length, slice_index_or, slice_set, ◌⊎◌, inl, inr, refl, sym, ap, subst, ◌∙◌, arith, if◌then◌else◌}
-use Rattle.std.proofs.lemmas.List.{length-set, set_past}
+use Rattle.std.proofs.Common.{◌≡◌, ◌≢◌, ℕ, ◌+◌, ◌-◌, ◌<◌, ◌≤◌, Bool, true, false, ◌||◌, Option, Some, None, is_some, IsSomeAnd, [], length, slice_index_or, slice_set, ◌⊎◌, inl, inr, refl, sym, ap, subst, ◌∙◌, arith, if◌then◌else◌}
+use Rattle.std.proofs.lemmas.List.{length-set}
 use Rattle.std.specs.Prelude.{count_by}
 use Rattle.vfs_base.specs.declared.ids.FileId.{FileId}
 use Rattle.vfs_base.specs.declared.kinds.Kind.{Kind}
-use Rattle.vfs_model.specs.Boxes.{BoxesPlaced, RomsClosed, cell_files, fits_kind, is_backed_by, lies_on_cell, lies_on_device, one_if}
-use Rattle.vfs_model.specs.Consistency.{FoldersStand, IsLive, LivesFit, ReferencesLive}
-use Rattle.vfs_model.specs.FileLife.{Rows, after_end, backing_of, end_of_dropped, free_if_unused, free_row, is_held, is_linked, no_device, volume_at, with_cell, with_device}
-use Rattle.vfs_model.specs.Namespace.{generation_at, life_at}
+use Rattle.vfs_model.specs.Boxes.{BoxesPlaced, cell_files, is_backed_by, lies_on_cell, lies_on_device, one_if}
+use Rattle.vfs_model.specs.Consistency.{IsLive, LivesFit, ReferencesLive}
+use Rattle.vfs_model.specs.FileLife.{after_end, backing_of, end_of_dropped, free_if_unused, free_row, is_held, is_linked, no_device, volume_at, with_cell, with_device}
+use Rattle.vfs_model.specs.Namespace.{life_at}
 use Rattle.vfs_model.specs.declared.namespace.Backing.{Backing}
 use Rattle.vfs_model.specs.declared.namespace.Backing.TheVariants as backing
 use Rattle.vfs_model.specs.declared.namespace.LiveFile.{LiveFile}
 use Rattle.vfs_model.specs.declared.namespace.Namespace.{Namespace}
-use Rattle.vfs_model.specs.declared.namespace.Reference.{Reference}
-use Rattle.world_laws.proofs.Beside.{folders-beside, live-beside}
+use Rattle.world_laws.proofs.Beside.{folders-beside}
 use Rattle.world_laws.proofs.Binding.{Rest, rest-beside, rest-stands, apart-cell, lives-cell, lives-set, out-here, out-other, own-cell, this-or-other}
-use Rattle.world_laws.proofs.Lists.{number-itself, other-number, same-or-other, set-here, set-there, some-within, true-or-false}
-use Rattle.world_laws.proofs.Standing.{Held, HeldIn, IsUsed, Linked, LinkedIn, NamespaceSizes, Nothing, Only, Stands, unused-not, used-again}
+use Rattle.world_laws.proofs.Lists.{number-itself, other-number, same-or-other, set-here, set-there}
+use Rattle.world_laws.proofs.Standing.{Held, IsUsed, Linked, Nothing, Only, Stands, unused-not, used-again}
 use Rattle.world_laws.proofs.Taking.{BoxesBut, CellsPlaced, DevicesPlaced, boxes-all, boxes-but, but-cell, but-device, but-life, cell-files, cell-pages, count-set, spare-here, spare-other, with_life}
 
 -- the row is free, and its generation is as before
@@ -42,9 +41,11 @@ live-freed n row l unlinked unheld live = record {
       alive-freed n row id kind number (rows-differ row id.row l alive.row
       (λ e. unlinked (record { number = number; path = path; id = id; kind = kind; there = h; is = e }) tt)) alive;
   held = λ place reference h.
-      let good = live.held place reference h in
-      (alive-freed n row reference.file reference.kind reference.mount (rows-differ row reference.file.row l good.0.row
-      (λ e. unheld (record { place = place; reference = reference; there = h; is = e }) tt)) good.0, good.1);
+      let good = live.held place reference h in (
+        alive-freed n row reference.file reference.kind reference.mount (rows-differ row reference.file.row l good.0.row
+            (λ e. unheld (record { place = place; reference = reference; there = h; is = e }) tt)) good.0,
+        good.1,
+      );
 }
 
 used-freed : (n : Namespace) (row other : ℕ) → row - 1 < length n.lives → 0 < row → 0 < other → (other - 1 ≡ row - 1) ⊎ (other - 1 ≢ row - 1) →
@@ -106,18 +107,18 @@ cells-dropped n row l spares cells (backing.Cell w d) e volume cell v c =
     let before = cells volume cell within in_pages in
     elim (this-or-other volume cell w d) [
       | inl h ↦
-        let one : one_if (lies_on_cell volume cell (backing_of (life_at n row))) ≡ 1 =
-        ap (λ x. one_if (lies_on_cell volume cell x)) (e ∙ ap (λ x. backing.Cell x d) (sym h.0) ∙ ap (λ x. backing.Cell volume x) (sym h.1)) ∙ ap one_if (own-cell volume cell) in
-        let spare : cell < length (volume_at n volume).spare = subst (λ x. cell < x) (sym (spares volume)) in_pages in
-        let is : one_if (slice_index_or (volume_at (with_cell true m w d) volume).spare cell false) ≡ 1 =
-        ap (λ x. one_if (slice_index_or (volume_at (with_cell true m w x) volume).spare cell false)) (sym h.1)
-        ∙ ap (λ x. one_if (slice_index_or (volume_at (with_cell true m x cell) volume).spare cell false)) (sym h.0) ∙ ap one_if (spare-here true m volume cell within spare) in
-        omega (arith, freed, same, before, one, is)
+          let one : one_if (lies_on_cell volume cell (backing_of (life_at n row))) ≡ 1 =
+          ap (λ x. one_if (lies_on_cell volume cell x)) (e ∙ ap (λ x. backing.Cell x d) (sym h.0) ∙ ap (λ x. backing.Cell volume x) (sym h.1)) ∙ ap one_if (own-cell volume cell) in
+          let spare : cell < length (volume_at n volume).spare = subst (λ x. cell < x) (sym (spares volume)) in_pages in
+          let is : one_if (slice_index_or (volume_at (with_cell true m w d) volume).spare cell false) ≡ 1 =
+          ap (λ x. one_if (slice_index_or (volume_at (with_cell true m w x) volume).spare cell false)) (sym h.1)
+          ∙ ap (λ x. one_if (slice_index_or (volume_at (with_cell true m x cell) volume).spare cell false)) (sym h.0) ∙ ap one_if (spare-here true m volume cell within spare) in
+          omega (arith, freed, same, before, one, is)
       | inr h ↦
-        let none : one_if (lies_on_cell volume cell (backing_of (life_at n row))) ≡ 0 = ap (λ x. one_if (lies_on_cell volume cell x)) e ∙ ap one_if (apart-cell volume cell w d h) in
-        let is : one_if (slice_index_or (volume_at (with_cell true m w d) volume).spare cell false) ≡ one_if (slice_index_or (volume_at n volume).spare cell false) =
-        ap one_if (spare-other true m w d volume cell h) in
-        omega (arith, freed, same, before, none, is)
+          let none : one_if (lies_on_cell volume cell (backing_of (life_at n row))) ≡ 0 = ap (λ x. one_if (lies_on_cell volume cell x)) e ∙ ap one_if (apart-cell volume cell w d h) in
+          let is : one_if (slice_index_or (volume_at (with_cell true m w d) volume).spare cell false) ≡ one_if (slice_index_or (volume_at n volume).spare cell false) =
+          ap one_if (spare-other true m w d volume cell h) in
+          omega (arith, freed, same, before, none, is)
     ]
 
 devices-dropped : (n : Namespace) (row : ℕ) → row - 1 < length n.lives → DevicesPlaced n →
@@ -139,16 +140,16 @@ devices-dropped n row l devices (backing.Device one) e device d =
     let before = devices device within in
     elim (same-or-other device one) [
       | inr h ↦
-        let none : one_if (lies_on_device device (backing_of (life_at n row))) ≡ 0 = ap (λ x. one_if (lies_on_device device x)) e ∙ ap one_if (other-number one device (λ f. h (sym f))) in
-        let same = ap one_if (out-other false m one device h) in
-        omega (arith, freed, none, before, same)
+          let none : one_if (lies_on_device device (backing_of (life_at n row))) ≡ 0 = ap (λ x. one_if (lies_on_device device x)) e ∙ ap one_if (other-number one device (λ f. h (sym f))) in
+          let same = ap one_if (out-other false m one device h) in
+          omega (arith, freed, none, before, same)
       | inl h ↦
-        let counts : one_if (lies_on_device device (backing_of (life_at n row))) ≡ 1 =
-        ap (λ x. one_if (lies_on_device device x)) (e ∙ ap backing.Device (sym h)) ∙ ap one_if (number-itself device) in
-        let is : one_if (slice_index_or (with_device false m one).devices device no_device).is_out ≡ 0 =
-        ap (λ x. one_if (slice_index_or (with_device false m x).devices device no_device).is_out) (sym h) ∙ ap one_if (out-here false m device within) in
-        let most : one_if (slice_index_or n.devices device no_device).is_out ≤ 1 = at-most (slice_index_or n.devices device no_device).is_out in
-        omega (arith, freed, counts, is, before, most)
+          let counts : one_if (lies_on_device device (backing_of (life_at n row))) ≡ 1 =
+          ap (λ x. one_if (lies_on_device device x)) (e ∙ ap backing.Device (sym h)) ∙ ap one_if (number-itself device) in
+          let is : one_if (slice_index_or (with_device false m one).devices device no_device).is_out ≡ 0 =
+          ap (λ x. one_if (slice_index_or (with_device false m x).devices device no_device).is_out) (sym h) ∙ ap one_if (out-here false m device within) in
+          let most : one_if (slice_index_or n.devices device no_device).is_out ≤ 1 = at-most (slice_index_or n.devices device no_device).is_out in
+          omega (arith, freed, counts, is, before, most)
     ]
   where
     at-most : (b : Bool) → one_if b ≤ 1

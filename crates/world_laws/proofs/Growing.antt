@@ -1,22 +1,20 @@
 -- The tree of a mount changes.
-use Rattle.std.proofs.Common.{◌≡◌, ◌≢◌, ℕ, ◌-◌, ◌<◌, ◌≤◌, Bool, true, false, Option, Some, None, is_some, List, [], ◌∷◌, ◌++◌, length, drop, slice_index_or, slice_set, ◌⊎◌, inl, inr, refl, sym, ap, subst, ◌∙◌, arith}
+use Rattle.std.proofs.Common.{◌≡◌, ◌≢◌, ℕ, ◌-◌, ◌<◌, true, false, Some, None, is_some, [], length, drop, slice_index_or, slice_set, ◌⊎◌, inl, inr, sym, ap, subst, ◌∙◌}
 use Rattle.std.proofs.lemmas.List.{length-set}
 use Rattle.std.specs.FinMap.Entries.{find as value_at}
 use Rattle.std.specs.List.{list_any}
 use Rattle.vfs_base.specs.Path.{Path, path_cmp}
 use Rattle.vfs_base.specs.declared.ids.FileId.{FileId}
 use Rattle.vfs_base.specs.declared.kinds.Kind.{Kind}
-use Rattle.vfs_base.specs.declared.kinds.NodeKind.{NodeKind}
 use Rattle.vfs_base.specs.declared.kinds.NodeKind.TheVariants as node
-use Rattle.vfs_model.specs.Consistency.{FoldersStand, IsClosedTree, IsLive, ReferencesLive, covered_mount, is_number, stands_on_folder}
-use Rattle.vfs_model.specs.Lookup.{covering_mount, is_below, is_dir_node, is_folder, node_at, node_in, with_tree}
-use Rattle.vfs_model.specs.Namespace.{Tree, all_mounts, folder_of, tree_of}
+use Rattle.vfs_model.specs.Consistency.{FoldersStand, IsClosedTree, IsLive, ReferencesLive, covered_mount, is_number}
+use Rattle.vfs_model.specs.Lookup.{is_below, is_dir_node, is_folder, node_in, with_tree}
+use Rattle.vfs_model.specs.Namespace.{Tree, folder_of, tree_of}
 use Rattle.vfs_model.specs.declared.namespace.Mount.{Mount}
 use Rattle.vfs_model.specs.declared.namespace.Namespace.{Namespace}
-use Rattle.vfs_model.specs.declared.namespace.Reference.{Reference}
 use Rattle.world_laws.proofs.Beside.{alive-beside, boxes-beside}
 use Rattle.world_laws.proofs.Lists.{same-or-other, set-here, set-there}
-use Rattle.world_laws.proofs.Standing.{IsUsed, NamespaceSizes, Stands}
+use Rattle.world_laws.proofs.Standing.{IsUsed, Stands}
 use Rattle.world_laws.proofs.Taking.{set-at}
 
 -- a tree as what a mount's number may have, in place of the one there is
@@ -54,9 +52,9 @@ own-or-other n number other tree e l = elim (same-or-other other number) [
 
 alone-changed : (n : Namespace) (number : ℕ) (tree : Tree) → MayStand n number tree → length n.trees ≡ 16 →
     ((number other : ℕ) (p q : Path) (id same : FileId) (kind like : Kind) →
-      value_at path_cmp p (tree_of n number) ≡ Some (node.File id kind) →
-      value_at path_cmp q (tree_of n other) ≡ Some (node.File same like) →
-      id.row ≡ same.row → (number ≡ other) × (p ≡ q)) →
+    value_at path_cmp p (tree_of n number) ≡ Some (node.File id kind) →
+    value_at path_cmp q (tree_of n other) ≡ Some (node.File same like) →
+    id.row ≡ same.row → (number ≡ other) × (p ≡ q)) →
     (a b : ℕ) (p q : Path) (id same : FileId) (kind like : Kind) →
     value_at path_cmp p (tree_of (with_tree n number tree) a) ≡ Some (node.File id kind) →
     value_at path_cmp q (tree_of (with_tree n number tree) b) ≡ Some (node.File same like) →

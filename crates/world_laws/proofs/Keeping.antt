@@ -1,22 +1,16 @@
 -- What a step keeps, and how chains of refusals tell it.
-use Rattle.std.proofs.Common.{◌≡◌, ◌≢◌, ℕ, ◌+◌, ◌-◌, ◌*◌, ◌<◌, ◌≤◌, Bool, true, false, not, ◌||◌, ◌&&◌, Option, Some, None, is_some, is_none, IsSomeAnd, List, [], ◌∷◌, ◌++◌, length, fold, slice_index_or, slice_set, ◌⊎◌, inl, inr, Result, Ok, Err, if◌then◌else◌, refl, sym, ap, subst, ◌∙◌, arith}
-use Rattle.std.specs.FinMap.Entries.{find as value_at}
-use Rattle.std.specs.List.{list_any}
-use Rattle.std.specs.Prelude.{slice_range}
-use Rattle.vfs_base.specs.Path.{Path, path_cmp, printed}
+use Rattle.std.proofs.Common.{◌≡◌, ℕ, ◌-◌, ◌*◌, ◌<◌, Bool, true, false, not, ◌||◌, Option, Some, None, is_some, IsSomeAnd, List, [], length, fold, slice_index_or, Result, Ok, Err, if◌then◌else◌, refl, ap, subst, ◌∙◌}
 use Rattle.vfs_base.specs.declared.errno.Errno.{Errno}
 use Rattle.vfs_base.specs.declared.ids.FileId.{FileId}
 use Rattle.vfs_base.specs.declared.kinds.Kind.{Kind}
 use Rattle.vfs_base.specs.declared.kinds.NodeKind.{NodeKind}
 use Rattle.vfs_base.specs.declared.kinds.NodeKind.TheVariants as node
-use Rattle.vfs_base.specs.declared.reply.Reply.{Reply}
-use Rattle.vfs_model.specs.Chain.{◌>>=◌, ◌>>◌, refuse◌when◌, refuse_by, wanted}
+use Rattle.vfs_model.specs.Chain.{◌>>=◌, ◌>>◌, wanted}
 use Rattle.vfs_model.specs.Consistency.{IsLive}
-use Rattle.vfs_model.specs.FileLife.{Rows, after_end, backing_of, end_of_dropped, free_if_unused, free_row, is_held, is_linked, with_cell, with_device}
+use Rattle.vfs_model.specs.FileLife.{after_end, backing_of, end_of_dropped, free_if_unused, free_row, is_held, is_linked}
 use Rattle.vfs_model.specs.Homes.{cell_capacity, change_row}
-use Rattle.vfs_model.specs.Lookup.{covering_mount, is_dir_node, is_file, is_file_node, is_folder, is_point, is_there, node_at, walk_refusal}
-use Rattle.vfs_model.specs.NameSteps.{done}
-use Rattle.vfs_model.specs.Namespace.{generation_at, life_at}
+use Rattle.vfs_model.specs.Lookup.{is_dir_node, is_file_node}
+use Rattle.vfs_model.specs.Namespace.{life_at}
 use Rattle.vfs_model.specs.NamespaceOutcome.{NamespaceOutcome}
 use Rattle.vfs_model.specs.declared.namespace.Backing.{Backing}
 use Rattle.vfs_model.specs.declared.namespace.Backing.TheVariants as backing
@@ -29,7 +23,6 @@ use Rattle.vfs_model.specs.declared.world.World.{World}
 use Rattle.world_laws.proofs.Agreeing.{Agrees, Ends, agrees-beside, agrees-ended, free-agrees}
 use Rattle.world_laws.proofs.Freeing.{unused-stands, without_life}
 use Rattle.world_laws.proofs.Lists.{some-within}
-use Rattle.world_laws.proofs.Passing.{refuse-passed, refuse_by-passed, then-first, then-rest}
 use Rattle.world_laws.proofs.Standing.{Nothing, Only, Stands}
 use Rattle.world_laws.proofs.Taking.{cell-pages}
 

@@ -1,5 +1,5 @@
 -- Lists that lose items, and counts that are at most one.
-use Rattle.std.proofs.Common.{◌≡◌, ◌≢◌, ℕ, zero, suc, ◌+◌, ◌-◌, ◌<◌, ◌≤◌, Bool, true, false, cond, not, ◌||◌, ◌&&◌, ◌==◌, T, Option, Some, None, is_some, List, [], ◌∷◌, ◌++◌, length, map, filter, slice_index_or, slice_set, ◌⊎◌, inl, inr, if◌then◌else◌, refl, sym, ap, subst, ◌∙◌, arith}
+use Rattle.std.proofs.Common.{◌≡◌, ℕ, zero, suc, ◌+◌, ◌-◌, ◌<◌, ◌≤◌, Bool, true, false, ◌||◌, T, Option, Some, None, List, [], ◌∷◌, length, map, filter, slice_index_or, slice_set, inl, inr, if◌then◌else◌, refl, sym, ap, subst, ◌∙◌, arith}
 use Rattle.std.proofs.lemmas.List.{length-set}
 use Rattle.std.proofs.lemmas.List.Sums.{sum_by-cons}
 use Rattle.std.specs.FinMap.Entries.{below_all, find as value_at, is_sorted}
@@ -12,7 +12,7 @@ use Rattle.vfs_model.specs.UmountSteps.{is_of_mount}
 use Rattle.vfs_model.specs.declared.namespace.LiveFile.{LiveFile}
 use Rattle.vfs_model.specs.declared.namespace.Namespace.{Namespace}
 use Rattle.world_laws.proofs.Emptying.{AllAbove, InRows, RowsLeft}
-use Rattle.world_laws.proofs.Lists.{AnyNode, any-node, below-none, below-or-past, first-there, later-there, nor-first, nor-second, place-any, or-first, or-second, same-number, number-itself, same-or-other, set-here, set-there, t-first, t-second, true-or-false}
+use Rattle.world_laws.proofs.Lists.{any-node, below-none, below-or-past, first-there, later-there, nor-first, nor-second, place-any, same-or-other, set-there, t-first, t-second, true-or-false}
 use Rattle.world_laws.proofs.MountKeeping.{counted-place}
 use Rattle.world_laws.proofs.Taking.{count-set}
 
@@ -96,12 +96,12 @@ pub one-place : {X : Type 0} (p : X → Bool) (xs : List X) (none d : X) (i j : 
 one-place p xs none d i j fails most l m h k = elim (same-or-other j i) [
   | inl e ↦ sym e
   | inr e ↦
-    let without = count-set p xs i none d l in
-    let was : one_if (p (slice_index_or xs i d)) ≡ 1 = ap one_if h in
-    let is : one_if (p none) ≡ 0 = ap one_if fails in
-    let still : p (slice_index_or (slice_set xs i none) j d) ≡ true = ap p (set-there xs i j none d e) ∙ k in
-    let more = count-place p (slice_set xs i none) j d (subst (λ n. j < n) (sym (length-set xs i none)) m) still in
-    absurd (omega (arith, without, was, is, more, most))
+      let without = count-set p xs i none d l in
+      let was : one_if (p (slice_index_or xs i d)) ≡ 1 = ap one_if h in
+      let is : one_if (p none) ≡ 0 = ap one_if fails in
+      let still : p (slice_index_or (slice_set xs i none) j d) ≡ true = ap p (set-there xs i j none d e) ∙ k in
+      let more = count-place p (slice_set xs i none) j d (subst (λ n. j < n) (sym (length-set xs i none)) m) still in
+      absurd (omega (arith, without, was, is, more, most))
 ]
 
 -- at most one node of a tree passes where nodes that pass stand at one path
@@ -118,12 +118,12 @@ unique-cons test e tree true h sorted one most =
     let none = none-count (λ x. test x.1) tree (elim (true-or-false (list_any (λ x. test x.1) tree)) [
       | inr k ↦ k
       | inl k ↦
-        let found = any-node test tree (t-second (below_all path_cmp e.0 tree) _ sorted) k in
-        let below = t-first _ (is_sorted path_cmp tree) sorted in
-        let same = one e.0 found.path e.1 found.node (first-there e tree) h (later-there e found.path found.node tree below found.there (true-or-false _)) found.holds in
-        let gone = below-none e.0 tree below in
-        let there = ap (λ p. value_at path_cmp p tree) same ∙ found.there in
-        absurd (cc)
+          let found = any-node test tree (t-second (below_all path_cmp e.0 tree) _ sorted) k in
+          let below = t-first _ (is_sorted path_cmp tree) sorted in
+          let same = one e.0 found.path e.1 found.node (first-there e tree) h (later-there e found.path found.node tree below found.there (true-or-false _)) found.holds in
+          let gone = below-none e.0 tree below in
+          let there = ap (λ p. value_at path_cmp p tree) same ∙ found.there in
+          absurd (cc)
     ]) in
     omega (arith, all, first, none)
 
@@ -165,9 +165,13 @@ rows-left number from m (life ∷ lives) l most h =
   where
     at : (b : Bool) → is_of_mount number life ≡ b → RowsLeft number m (rows_from number (from + 1) lives) → RowsLeft number m (rows_from number from (life ∷ lives))
     at false e later = subst (RowsLeft number m) (sym (row-cons number from life lives false e)) later
-    at true e later = subst (RowsLeft number m) (sym (row-cons number from life lives true e))
-        (l, omega (arith, most, l), ap (λ k. is_of_mount number (life_at m k)) (omega arith) ∙ ap (is_of_mount number) (h 0 (omega arith)) ∙ e,
-        rows-above number (from + 1) from lives (omega arith), later)
+    at true e later = subst (RowsLeft number m) (sym (row-cons number from life lives true e)) (
+      l,
+      omega (arith, most, l),
+      ap (λ k. is_of_mount number (life_at m k)) (omega arith) ∙ ap (is_of_mount number) (h 0 (omega arith)) ∙ e,
+      rows-above number (from + 1) from lives (omega arith),
+      later,
+    )
 
 pub rows-in : (number from k : ℕ) (lives : List (Option LiveFile)) → k < length lives → is_of_mount number (slice_index_or lives k None) ≡ true → InRows (rows_from number from lives) (from + k)
 rows-in number from k [] l h = absurd (omega (arith, l))

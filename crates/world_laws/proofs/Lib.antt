@@ -41,3 +41,4 @@ pub mod RootRemoval
 pub mod ShutdownKeeping
 pub mod StepKeeping
 pub mod WorldSteps
+pub mod Opening

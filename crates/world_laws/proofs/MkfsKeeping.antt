@@ -1,5 +1,5 @@
 -- Formatting a volume keeps what holds.
-use Rattle.std.proofs.Common.{◌≡◌, ◌≢◌, ℕ, ◌+◌, ◌-◌, ◌*◌, ◌<◌, ◌≤◌, Bool, true, false, not, ◌||◌, ◌&&◌, ◌==◌, Option, Some, None, IsSomeAnd, List, [], ◌∷◌, length, find, replicate, slice_index_or, slice_set, ◌⊎◌, inl, inr, refl, sym, ap, subst, ◌∙◌, arith}
+use Rattle.std.proofs.Common.{◌≡◌, ◌≢◌, ℕ, ◌+◌, ◌*◌, ◌<◌, Bool, true, false, not, ◌&&◌, ◌==◌, Option, Some, None, IsSomeAnd, List, [], length, replicate, slice_index_or, ◌⊎◌, inl, inr, refl, sym, ap, subst, ◌∙◌, arith}
 use Rattle.std.proofs.lemmas.List.{get_or-replicate, length-replicate, length-set}
 use Rattle.std.proofs.lemmas.List.Folds.{position_or_len-set}
 use Rattle.std.proofs.lemmas.List.Sums.{passes_at_first}
@@ -8,13 +8,11 @@ use Rattle.std.specs.List.{list_any}
 use Rattle.std.specs.Prelude.{count_by}
 use Rattle.vfs_base.specs.declared.errno.Errno.TheVariants as errno
 use Rattle.vfs_base.specs.declared.kinds.FsType.TheVariants as fs
-use Rattle.vfs_base.specs.declared.kinds.Kind.{Kind}
 use Rattle.vfs_model.specs.Boxes.{cell_files, fits_kind, is_backed_by, is_kept_dir, is_kept_on, lies_on_cell, one_if}
-use Rattle.vfs_model.specs.Chain.{◌>>◌, refuse◌when◌}
+use Rattle.vfs_model.specs.Chain.{refuse◌when◌}
 use Rattle.vfs_model.specs.Consistency.{IsClosedTree, LivesFit, fits_mount, mount_numbered, same_kind}
 use Rattle.vfs_model.specs.Content.{is_mounted, same_type}
-use Rattle.vfs_model.specs.FileLife.{backing_of, no_volume, volume_at, volume_named}
-use Rattle.vfs_model.specs.Homes.{cell_capacity}
+use Rattle.vfs_model.specs.FileLife.{no_volume, volume_at, volume_named}
 use Rattle.vfs_model.specs.Namespace.{all_mounts, life_at, same_bytes}
 use Rattle.vfs_model.specs.OpenStep.{kind_of}
 use Rattle.vfs_model.specs.UmountSteps.{format_volume, mkfs_step}
@@ -23,9 +21,9 @@ use Rattle.vfs_model.specs.declared.namespace.Backing.TheVariants as backing
 use Rattle.vfs_model.specs.declared.namespace.LiveFile.{LiveFile}
 use Rattle.vfs_model.specs.declared.namespace.Mount.{Mount}
 use Rattle.vfs_model.specs.declared.namespace.Namespace.{Namespace}
-use Rattle.world_laws.proofs.Agreeing.{Agrees, agrees-beside}
+use Rattle.world_laws.proofs.Agreeing.{agrees-beside}
 use Rattle.world_laws.proofs.Binding.{rest-beside, rest-of, rest-stands}
-use Rattle.world_laws.proofs.Keeping.{Keeps, Kept, then-kept}
+use Rattle.world_laws.proofs.Keeping.{Kept, then-kept}
 use Rattle.world_laws.proofs.Leaving.{none-count}
 use Rattle.world_laws.proofs.Lists.{any-place, place-any, same-number, same-or-other, set-here, set-there, true-or-false}
 use Rattle.world_laws.proofs.Passing.{and-both, and-first, and-second, refuse-passed}
@@ -57,11 +55,13 @@ module _ (n : Namespace) (name : List ℕ) (s : Stands Nothing n) (off : is_moun
           let yes : is_mounted n fs.Cell name ≡ true =
           place-any (λ m. same_type m.fs fs.Cell && same_bytes m.source name) (all_mounts n) at.place mount at.within
           (ap (λ m. same_type m.fs fs.Cell && same_bytes m.source name) at.is
-            ∙ and-both (same_type mount.fs fs.Cell) (same_bytes mount.source name) (ap (λ t. same_type t fs.Cell) cell_mount) ((bytes_decides mount.source name).1 (sym other ∙ own))) in
+          ∙ and-both (same_type mount.fs fs.Cell) (same_bytes mount.source name) (ap (λ t. same_type t fs.Cell) cell_mount) ((bytes_decides mount.source name).1 (sym other ∙ own))) in
           absurd (cc)
+
       found : (life : LiveFile) (mounts : Option Mount) → mount_numbered n life.mount ≡ mounts → life_at n row ≡ Some life → life.backing ≡ backing.Cell place cell → IsSomeAnd mounts (λ m. fits_mount n life m ≡ true) → ⊥
       found life None e there on fits = fits
       found life (Some mount) e there on fits = mounted life mount e there on fits
+
       by : (x : Option LiveFile) → life_at n row ≡ x → is_backed_by (lies_on_cell place cell) x ≡ true → ⊥
       by None e k = absurd (cc)
       by (Some life) e k = found life (mount_numbered n life.mount) refl e (on-cell place cell life.backing k) (s.lives row life e)
@@ -70,8 +70,8 @@ module _ (n : Namespace) (name : List ℕ) (s : Stands Nothing n) (off : is_moun
   none-lives l cell = none-count (is_backed_by (lies_on_cell place cell)) n.lives (elim (true-or-false (list_any (is_backed_by (lies_on_cell place cell)) n.lives)) [
     | inr h ↦ h
     | inl h ↦
-      let at = any-place (is_backed_by (lies_on_cell place cell)) n.lives None h in
-      absurd (no-life l cell (at.place + 1) (ap (λ k. is_backed_by (lies_on_cell place cell) (slice_index_or n.lives k None)) (omega arith) ∙ at.holds))
+        let at = any-place (is_backed_by (lies_on_cell place cell)) n.lives None h in
+        absurd (no-life l cell (at.place + 1) (ap (λ k. is_backed_by (lies_on_cell place cell) (slice_index_or n.lives k None)) (omega arith) ∙ at.holds))
   ])
 
   abbrev blank_spare : List Bool
@@ -129,21 +129,21 @@ module _ (n : Namespace) (name : List ℕ) (s : Stands Nothing n) (off : is_moun
       let inside : cell < length (volume_at n volume).pages = subst (λ pages. cell < length pages) (format-pages volume) c in
       elim (same-or-other volume (volume_named n name)) [
         | inr h ↦
-          let same = format-other volume h in
-          let placed = s.boxes.cells volume cell within inside in
-          let kept = ap (λ x. count_by (λ entry. is_kept_on cell entry.1) x.kept) same in
-          let spare = ap (λ x. one_if (slice_index_or x.spare cell false)) same in
-          omega (arith, placed, kept, spare)
+            let same = format-other volume h in
+            let placed = s.boxes.cells volume cell within inside in
+            let kept = ap (λ x. count_by (λ entry. is_kept_on cell entry.1) x.kept) same in
+            let spare = ap (λ x. one_if (slice_index_or x.spare cell false)) same in
+            omega (arith, placed, kept, spare)
         | inl e ↦
-          let own = subst (λ x. x < length n.volumes) e within in
-          let is : volume_at (format_volume n (volume_named n name)) volume ≡ record (volume_at n (volume_named n name)) { spare = replicate (length (volume_at n (volume_named n name)).pages) true; kept = [] } =
-          ap (volume_at (format_volume n (volume_named n name))) e ∙ set-here n.volumes (volume_named n name) (record (volume_at n (volume_named n name)) { spare = replicate (length (volume_at n (volume_named n name)).pages) true; kept = [] }) no_volume own in
-          let kept : count_by (λ entry. is_kept_on cell entry.1) (volume_at (format_volume n (volume_named n name)) volume).kept ≡ 0 = ap (λ x. count_by (λ entry. is_kept_on cell entry.1) x.kept) is in
-          let spare : one_if (slice_index_or (volume_at (format_volume n (volume_named n name)) volume).spare cell false) ≡ 1 =
-          ap (λ x. one_if (slice_index_or x.spare cell false)) is ∙ ap one_if (get_or-replicate (length (volume_at n (volume_named n name)).pages) cell true false (subst (λ x. cell < length (volume_at n x).pages) e inside)) in
-          let lives = ap (λ x. count_by (is_backed_by (lies_on_cell x cell)) n.lives) e in
-          let none = none-lives own cell in
-          omega (arith, kept, spare, lives, none)
+            let own = subst (λ x. x < length n.volumes) e within in
+            let is : volume_at (format_volume n (volume_named n name)) volume ≡ record (volume_at n (volume_named n name)) { spare = replicate (length (volume_at n (volume_named n name)).pages) true; kept = [] } =
+            ap (volume_at (format_volume n (volume_named n name))) e ∙ set-here n.volumes (volume_named n name) (record (volume_at n (volume_named n name)) { spare = replicate (length (volume_at n (volume_named n name)).pages) true; kept = [] }) no_volume own in
+            let kept : count_by (λ entry. is_kept_on cell entry.1) (volume_at (format_volume n (volume_named n name)) volume).kept ≡ 0 = ap (λ x. count_by (λ entry. is_kept_on cell entry.1) x.kept) is in
+            let spare : one_if (slice_index_or (volume_at (format_volume n (volume_named n name)) volume).spare cell false) ≡ 1 =
+            ap (λ x. one_if (slice_index_or x.spare cell false)) is ∙ ap one_if (get_or-replicate (length (volume_at n (volume_named n name)).pages) cell true false (subst (λ x. cell < length (volume_at n x).pages) e inside)) in
+            let lives = ap (λ x. count_by (is_backed_by (lies_on_cell x cell)) n.lives) e in
+            let none = none-lives own cell in
+            omega (arith, kept, spare, lives, none)
       ]
 
   format-stands : Stands Nothing (format_volume n (volume_named n name))

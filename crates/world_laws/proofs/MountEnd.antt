@@ -1,53 +1,46 @@
 -- Mounting keeps what holds between steps.
-use Rattle.std.proofs.Common.{◌≡◌, ◌≢◌, ℕ, zero, suc, ◌+◌, ◌-◌, ◌<◌, ◌≤◌, Bool, true, false, not, ◌||◌, ◌&&◌, ◌==◌, Option, Some, None, is_some, List, [], ◌∷◌, ◌++◌, length, map, fold, find, drop, slice_index_or, slice_set, ◌⊎◌, inl, inr, if◌then◌else◌, Result, Ok, Err, refl, sym, ap, subst, ◌∙◌, arith}
+use Rattle.std.proofs.Common.{◌≡◌, ◌≢◌, ℕ, suc, ◌-◌, ◌<◌, ◌≤◌, Bool, true, false, not, ◌||◌, ◌&&◌, ◌==◌, Option, Some, None, is_some, List, [], ◌∷◌, ◌++◌, length, map, fold, find, slice_index_or, slice_set, ◌⊎◌, inl, inr, if◌then◌else◌, Ok, refl, sym, ap, subst, ◌∙◌, arith}
 use Rattle.std.proofs.lemmas.Bool.{ltb-false, leb-false}
-use Rattle.std.proofs.lemmas.Bool.Decides.{eqb_tells}
 use Rattle.std.proofs.lemmas.List.{set-get_or}
 use Rattle.std.proofs.lemmas.List.FromFn.{get_or-range_with_len}
 use Rattle.std.proofs.lemmas.List.Sums.{fails_before_first, passes_at_first}
 use Rattle.std.proofs.lemmas.Map.Steps.{le-length_from_below}
 use Rattle.std.specs.FinMap.Entries.{find as value_at}
-use Rattle.std.specs.List.{list_any, position_or_len, range_with_len}
-use Rattle.std.specs.Prelude.{count_by, nat_le, nat_lt, nat_eq}
+use Rattle.std.specs.List.{list_any, range_with_len}
+use Rattle.std.specs.Prelude.{nat_le, nat_lt, nat_eq}
 use Rattle.vfs_base.specs.Path.{Path, path_cmp}
-use Rattle.vfs_base.specs.declared.errno.Errno.{Errno}
 use Rattle.vfs_base.specs.declared.errno.Errno.TheVariants as errno
-use Rattle.vfs_base.specs.declared.ids.FileId.{FileId}
 use Rattle.vfs_base.specs.declared.kinds.FsType.{FsType}
 use Rattle.vfs_base.specs.declared.kinds.FsType.TheVariants as fs
-use Rattle.vfs_base.specs.declared.kinds.Kind.{Kind}
 use Rattle.vfs_base.specs.declared.kinds.NodeKind.{NodeKind}
 use Rattle.vfs_base.specs.declared.kinds.NodeKind.TheVariants as node
 use Rattle.vfs_model.proofs.NodeLaws.{other_mount}
-use Rattle.vfs_model.specs.Chain.{◌>>=◌, ◌>>◌, refuse◌when◌, refuse_by, wanted}
-use Rattle.vfs_model.specs.Consistency.{FoldersStand, IsClosedTree, covered_mount, is_number, mount_numbered}
+use Rattle.vfs_model.specs.Chain.{refuse◌when◌, refuse_by}
+use Rattle.vfs_model.specs.Consistency.{IsClosedTree, covered_mount}
 use Rattle.vfs_model.specs.Content.{Content, content_of, file_count, fs_type_of, same_type}
-use Rattle.vfs_model.specs.FileLife.{Rows, free_rows}
 use Rattle.vfs_model.specs.Homes.{cell_capacity, change_row}
-use Rattle.vfs_model.specs.Lookup.{asked_path, covering_mount, has_folder_within, has_mount_below, has_nodes, is_below, is_dir_node, is_file, is_folder, is_point, is_prefix, is_there, node_at, node_in, walk_refusal, with_tree}
+use Rattle.vfs_model.specs.Lookup.{asked_path, covering_mount, has_folder_within, has_mount_below, has_nodes, is_dir_node, is_file, is_point, is_prefix, is_there, node_at, walk_refusal, with_tree}
 use Rattle.vfs_model.specs.MountStep.{add_mount, is_taken, is_without_source, least_free_mount, mount_at, mount_refusals, mount_step, without_kept}
 use Rattle.vfs_model.specs.NameSteps.{done}
-use Rattle.vfs_model.specs.Namespace.{Tree, all_mounts, folder_of, same_path, tree_of}
+use Rattle.vfs_model.specs.Namespace.{all_mounts, folder_of, same_path, tree_of}
 use Rattle.vfs_model.specs.declared.namespace.Mount.{Mount}
 use Rattle.vfs_model.specs.declared.namespace.Namespace.{Namespace}
-use Rattle.vfs_model.specs.declared.world.World.{World}
-use Rattle.world_laws.proofs.Adding.{MayMount, Placed, not-prefix, own-tree, placed, with_one}
+use Rattle.world_laws.proofs.Adding.{MayMount, not-prefix, own-tree, placed, with_one}
 use Rattle.world_laws.proofs.Agreeing.{Agrees, agrees-beside}
 use Rattle.world_laws.proofs.Binding.{rest-stands}
-use Rattle.world_laws.proofs.Contents.{IsTree}
 use Rattle.world_laws.proofs.Covering.{IsMount, covering-is, covers-prefix, one-number}
 use Rattle.world_laws.proofs.FillAll.{Filled, adds, fill-all}
-use Rattle.world_laws.proofs.Filling.{Fill, InTree, content_shape, node_shape, shape-none}
+use Rattle.world_laws.proofs.Filling.{InTree, node_shape, shape-none}
 use Rattle.world_laws.proofs.FreeRows.{free_count}
 use Rattle.world_laws.proofs.Growing.{MayStand, tree-other, tree-own, tree-stands}
 use Rattle.world_laws.proofs.Keeping.{Keeps, Kept, bind-kept, then-kept, there-folder, wanted-kept}
-use Rattle.world_laws.proofs.Lists.{below-or-past, nor-first, nor-second, or-first, or-second, number-itself, same-number, same-or-other, same-some, true-or-false}
+use Rattle.world_laws.proofs.Lists.{below-or-past, nor-first, nor-second, or-first, or-second, number-itself, same-number, same-some, true-or-false}
 use Rattle.world_laws.proofs.MountKeeping.{Begun, begun, found-any}
 use Rattle.world_laws.proofs.MoveKeeping.{plain-folder, within-or-not}
 use Rattle.world_laws.proofs.NameKeeping.{not-root}
-use Rattle.world_laws.proofs.Passing.{refuse-passed, refuse_by-passed, then-first, then-rest}
+use Rattle.world_laws.proofs.Passing.{refuse-passed, then-first, then-rest}
 use Rattle.world_laws.proofs.Points.{point-covers}
-use Rattle.world_laws.proofs.Standing.{IsUsed, Linked, LinkedIn, Nothing, Stands}
+use Rattle.world_laws.proofs.Standing.{IsUsed, Nothing, Stands}
 use Rattle.world_laws.proofs.Taking.{boxes-all}
 
 -- a mount that is found by its number is one of the mounts
@@ -235,17 +228,17 @@ length-range-numbers = refl
 free-number : (n : Namespace) → length (all_mounts n) < 16 → (least_free_mount n < 16) × (list_any (λ other. other.number == least_free_mount n) (all_mounts n) ≡ false)
 free-number n l = elim (below-or-past (least_free_mount n) 16) [
   | inl small ↦
-    let passes = passes_at_first (λ number. not (list_any (λ mount. mount.number == number) (all_mounts n))) (range_with_len 0 16) 0 small in
-    let at : slice_index_or (range_with_len 0 16) (least_free_mount n) 0 ≡ least_free_mount n = get_or-range_with_len 0 16 (least_free_mount n) 0 small ∙ omega arith in
-    (small, not-true _ (sym (ap (λ number. not (list_any (λ mount. mount.number == number) (all_mounts n))) at) ∙ passes))
+      let passes = passes_at_first (λ number. not (list_any (λ mount. mount.number == number) (all_mounts n))) (range_with_len 0 16) 0 small in
+      let at : slice_index_or (range_with_len 0 16) (least_free_mount n) 0 ≡ least_free_mount n = get_or-range_with_len 0 16 (least_free_mount n) 0 small ∙ omega arith in
+      (small, not-true _ (sym (ap (λ number. not (list_any (λ mount. mount.number == number) (all_mounts n))) at) ∙ passes))
   | inr past ↦
-    let every : (q : ℕ) → q < 16 → list_any (nat_eq q) (map (λ m. m.number) (all_mounts n)) ≡ true = λ q m.
-    let fails = fails_before_first (λ number. not (list_any (λ mount. mount.number == number) (all_mounts n))) (range_with_len 0 16) q 0 (omega (arith, m, past)) in
-    let at : slice_index_or (range_with_len 0 16) q 0 ≡ q = get_or-range_with_len 0 16 q 0 m ∙ omega arith in
-    numbers-of q (all_mounts n) (not-false _ (sym (ap (λ number. not (list_any (λ mount. mount.number == number) (all_mounts n))) at) ∙ fails)) in
-    let many = le-length_from_below (map (λ m. m.number) (all_mounts n)) 16 every in
-    let same = length-numbers (all_mounts n) in
-    absurd (omega (arith, many, same, l))
+      let every : (q : ℕ) → q < 16 → list_any (nat_eq q) (map (λ m. m.number) (all_mounts n)) ≡ true = λ q m.
+      let fails = fails_before_first (λ number. not (list_any (λ mount. mount.number == number) (all_mounts n))) (range_with_len 0 16) q 0 (omega (arith, m, past)) in
+      let at : slice_index_or (range_with_len 0 16) q 0 ≡ q = get_or-range_with_len 0 16 q 0 m ∙ omega arith in
+      numbers-of q (all_mounts n) (not-false _ (sym (ap (λ number. not (list_any (λ mount. mount.number == number) (all_mounts n))) at) ∙ fails)) in
+      let many = le-length_from_below (map (λ m. m.number) (all_mounts n)) 16 every in
+      let same = length-numbers (all_mounts n) in
+      absurd (omega (arith, many, same, l))
 ]
 
 pub mount-kept : (n : Namespace) (k : ℕ) (source point_text type_text : List ℕ) → Stands Nothing n → Kept n (mount_step n k source point_text type_text)

@@ -1,70 +1,48 @@
 -- Mounting keeps what holds between steps.
-use Rattle.std.proofs.Common.{◌≡◌, ◌≢◌, ℕ, zero, suc, ◌+◌, ◌-◌, ◌*◌, ◌<◌, ◌≤◌, Bool, true, false, cond, not, ◌||◌, ◌&&◌, ◌==◌, T, Option, Some, None, is_some, IsSomeAnd, List, [], ◌∷◌, ◌++◌, length, map, fold, find, drop, slice_index_or, slice_set, ◌⊎◌, inl, inr, if◌then◌else◌, Result, Ok, Err, refl, sym, ap, subst, ◌∙◌, arith, length-append}
-use Rattle.std.proofs.lemmas.Bool.{ltb-false, leb-false}
-use Rattle.std.proofs.lemmas.List.{append-nil, get_or_past, length-set, set-get_or, set_past}
+use Rattle.std.proofs.Common.{◌≡◌, ◌≢◌, ℕ, suc, ◌+◌, ◌*◌, ◌<◌, ◌≤◌, Bool, true, false, cond, ◌||◌, ◌&&◌, ◌==◌, Option, Some, None, is_some, IsSomeAnd, List, [], ◌∷◌, ◌++◌, length, map, find, slice_index_or, ◌⊎◌, inl, inr, if◌then◌else◌, refl, sym, ap, subst, ◌∙◌, arith, length-append}
+use Rattle.std.proofs.lemmas.List.{get_or_past, length-set, set_past}
 use Rattle.std.proofs.lemmas.List.Folds.{find-append, list_any-append, position_or_len-set}
 use Rattle.std.proofs.lemmas.List.Sums.{sum_by-cons, count_by-le-length}
-use Rattle.std.proofs.lemmas.Map.Steps.{le-length_from_below}
-use Rattle.std.specs.FinMap.Entries.{find as value_at, is_sorted}
-use Rattle.std.specs.List.{list_any, position_or_len, range_with_len}
+use Rattle.std.specs.FinMap.Entries.{find as value_at}
+use Rattle.std.specs.List.{list_any}
 use Rattle.std.specs.Option.{option_or}
 use Rattle.std.specs.Ordering.{eq_by_cmp}
-use Rattle.std.specs.Prelude.{count_by, nat_le, nat_lt}
+use Rattle.std.specs.Prelude.{count_by}
 use Rattle.vfs_base.specs.Path.{Path, path_cmp}
 use Rattle.vfs_base.specs.PathLaws.{path_cmp_exact}
-use Rattle.vfs_base.specs.declared.errno.Errno.{Errno}
-use Rattle.vfs_base.specs.declared.errno.Errno.TheVariants as errno
-use Rattle.vfs_base.specs.declared.ids.FileId.{FileId}
 use Rattle.vfs_base.specs.declared.kinds.FsType.{FsType}
 use Rattle.vfs_base.specs.declared.kinds.FsType.TheVariants as fs
 use Rattle.vfs_base.specs.declared.kinds.Kind.{Kind}
 use Rattle.vfs_base.specs.declared.kinds.Kind.TheVariants as kind
-use Rattle.vfs_base.specs.declared.kinds.NodeKind.{NodeKind}
-use Rattle.vfs_base.specs.declared.kinds.NodeKind.TheVariants as node
-use Rattle.vfs_model.proofs.NodeLaws.{other_mount}
 use Rattle.vfs_model.specs.Boxes.{cell_files, is_backed_by, is_kept_dir, is_kept_on, lies_on_cell, lies_on_device, one_if, fits_kind}
-use Rattle.vfs_model.specs.Chain.{◌>>=◌, ◌>>◌, refuse◌when◌, refuse_by, wanted}
-use Rattle.vfs_model.specs.Consistency.{FoldersStand, IsClosedTree, IsLive, LivesFit, covered_mount, fits_mount, is_number, mount_numbered, same_kind, kind_number}
-use Rattle.vfs_model.specs.Content.{Content, content_of, device_content, file_count, fs_type_of, is_mounted, kept_origin, no_rom, rom_at, rom_origin, same_type}
-use Rattle.vfs_model.specs.FileLife.{Rows, free_rows, no_device, no_volume, volume_at, volume_named, with_kept}
-use Rattle.vfs_model.specs.Homes.{cell_capacity, change_row}
-use Rattle.vfs_model.specs.Laws.{HasNoPoint}
-use Rattle.vfs_model.specs.Lookup.{asked_path, covering_mount, has_folder_within, has_mount_below, has_nodes, is_below, is_dir_node, is_file, is_folder, is_point, is_prefix, is_there, node_at, node_in, walk_refusal, with_tree}
-use Rattle.vfs_model.specs.MountStep.{add_content, add_mount, is_taken, is_without_source, least_free_mount, mount_at, mount_refusals, mount_step, origin_backing, without_kept}
-use Rattle.vfs_model.specs.NameSteps.{done}
-use Rattle.vfs_model.specs.Namespace.{Tree, all_mounts, folder_of, life_at, same_bytes, same_path, tree_of}
+use Rattle.vfs_model.specs.Consistency.{IsClosedTree, LivesFit, fits_mount, mount_numbered, same_kind, kind_number}
+use Rattle.vfs_model.specs.Content.{Content, content_of, device_content, file_count, is_mounted, kept_origin, no_rom, rom_at, rom_origin, same_type}
+use Rattle.vfs_model.specs.FileLife.{free_rows, no_device, no_volume, volume_at, volume_named, with_kept}
+use Rattle.vfs_model.specs.Homes.{cell_capacity}
+use Rattle.vfs_model.specs.MountStep.{is_taken, without_kept}
+use Rattle.vfs_model.specs.Namespace.{all_mounts, life_at, same_bytes}
 use Rattle.vfs_model.specs.OpenStep.{kind_of}
 use Rattle.vfs_model.specs.ReferenceSteps.{is_device_kind}
 use Rattle.vfs_model.specs.declared.namespace.Backing.{Backing}
 use Rattle.vfs_model.specs.declared.namespace.Backing.TheVariants as backing
 use Rattle.std.specs.Cmp.Lexicographic.{bytes_decides}
-use Rattle.vfs_model.specs.declared.namespace.DeviceState.{DeviceState}
 use Rattle.vfs_model.specs.declared.namespace.KeptNode.{KeptNode}
 use Rattle.vfs_model.specs.declared.namespace.KeptNode.TheVariants as kept
 use Rattle.vfs_model.specs.declared.namespace.LiveFile.{LiveFile}
 use Rattle.vfs_model.specs.declared.namespace.Mount.{Mount}
 use Rattle.vfs_model.specs.declared.namespace.Namespace.{Namespace}
 use Rattle.vfs_model.specs.declared.namespace.Origin.{Origin}
-use Rattle.vfs_model.specs.declared.namespace.Origin.TheVariants as origin
 use Rattle.vfs_model.specs.declared.namespace.RomNode.{RomNode}
 use Rattle.vfs_model.specs.declared.namespace.RomNode.TheVariants as rom
-use Rattle.vfs_model.specs.declared.namespace.VolumeState.{VolumeState}
-use Rattle.vfs_model.specs.declared.world.World.{World}
 use Rattle.world_laws.proofs.Adding.{MayMount, placed, one-lives, one-rest, with_one}
-use Rattle.world_laws.proofs.Agreeing.{Agrees, agrees-beside}
-use Rattle.world_laws.proofs.Binding.{Rest, rest-beside, rest-stands, some-life}
-use Rattle.world_laws.proofs.Contents.{AllDevices, DeviceFold, IsDevice, IsTree, device-content, empty-tree, kept-tree, rom-tree}
-use Rattle.world_laws.proofs.FillAll.{Filled, adds, fill-all}
-use Rattle.world_laws.proofs.Filling.{AllFit, Fill, Fits, InTree, begins_on, content_shape, node_shape, pending}
+use Rattle.world_laws.proofs.Binding.{Rest, rest-beside}
+use Rattle.world_laws.proofs.Contents.{AllDevices, IsDevice, IsTree, device-content, empty-tree, kept-tree, rom-tree}
+use Rattle.world_laws.proofs.Filling.{AllFit, Fill, Fits, InTree, begins_on, content_shape, pending}
 use Rattle.world_laws.proofs.FreeRows.{free_count, rows-length}
-use Rattle.world_laws.proofs.Growing.{MayStand, tree-stands}
-use Rattle.world_laws.proofs.Keeping.{Keeps, Kept, bind-kept, then-kept, there-folder, wanted-kept}
-use Rattle.world_laws.proofs.Lists.{AnyPlace, any-later, any-place, below-or-past, no-place, nor-first, nor-second, number-itself, or-either, or-first, or-second, place-any, same-number, same-or-other, same-some, set-here, set-there, equal-is, other-number, true-or-false, some-within}
-use Rattle.world_laws.proofs.MoveKeeping.{plain-folder, within-or-not}
-use Rattle.world_laws.proofs.NameKeeping.{not-root}
-use Rattle.world_laws.proofs.Passing.{and-both, and-first, and-second, refuse-passed, refuse_by-passed, then-first, then-rest}
-use Rattle.world_laws.proofs.Standing.{IsUsed, Linked, LinkedIn, Nothing, Stands}
-use Rattle.world_laws.proofs.Taking.{BoxesBut, CellsPlaced, DevicesPlaced, boxes-all, boxes-but, set-at}
+use Rattle.world_laws.proofs.Lists.{AnyPlace, any-later, below-or-past, no-place, nor-first, nor-second, number-itself, or-either, or-first, or-second, same-or-other, same-some, set-here, set-there, equal-is, other-number, true-or-false}
+use Rattle.world_laws.proofs.Passing.{and-both, and-first, and-second}
+use Rattle.world_laws.proofs.Standing.{IsUsed, Nothing, Stands}
+use Rattle.world_laws.proofs.Taking.{BoxesBut, set-at}
 
 -- one of a list passes where the count isn't 0
 counted-cons : {X : Type 0} (p : X → Bool) (x : X) (xs : List X) (d : X) (b : Bool) → p x ≡ b → 0 < one_if b + count_by p xs → (0 < count_by p xs → AnyPlace p xs d) → AnyPlace p (x ∷ xs) d
@@ -109,6 +87,7 @@ device-life device life h fits = by life.backing refl
     chr kind.Rom e = absurd (cc)
     chr kind.Cell e = absurd (cc)
     chr kind.Chr e = refl
+
     by : (b : Backing) → life.backing ≡ b → life.kind ≡ kind.Chr
     by backing.Memory e = let none = sym (ap (lies_on_device device) e) ∙ h in absurd (cc)
     by (backing.Cell volume cell) e = let none = sym (ap (lies_on_device device) e) ∙ h in absurd (cc)
@@ -127,8 +106,8 @@ all-home : (n : Namespace) (source : List ℕ) → Stands Nothing n → is_taken
 all-home n source s free device l = elim (true-or-false (slice_index_or n.devices device no_device).is_out) [
   | inr h ↦ h
   | inl h ↦
-    let one : count_by (is_backed_by (lies_on_device device)) n.lives ≡ 1 = s.boxes.devices device l ∙ ap one_if h in
-    absurd (at (counted-place (is_backed_by (lies_on_device device)) n.lives None (omega (arith, one))))
+      let one : count_by (is_backed_by (lies_on_device device)) n.lives ≡ 1 = s.boxes.devices device l ∙ ap one_if h in
+      absurd (at (counted-place (is_backed_by (lies_on_device device)) n.lives None (omega (arith, one))))
 ]
   where
     dev : (life : LiveFile) (found : Option Mount) → mount_numbered n life.mount ≡ found → life.kind ≡ kind.Chr → IsSomeAnd found (λ m. fits_mount n life m ≡ true) → ⊥
@@ -138,12 +117,14 @@ all-home n source s free device l = elim (true-or-false (slice_index_or n.device
         let is : same_type m.fs fs.Dev ≡ true = ap (λ t. same_type t fs.Dev) (chr-is-dev m.fs same) in
         let yes = found-any (λ x. x.number == life.mount) (λ x. same_type x.fs fs.Dev) (all_mounts n) m e is in
         absurd (cc)
+
     live : (place : ℕ) (found : Option LiveFile) → slice_index_or n.lives place None ≡ found → is_backed_by (lies_on_device device) found ≡ true → ⊥
     live place None e h = absurd (cc)
     live place (Some life) e h =
         let there : life_at n (suc place) ≡ Some life = ap (λ k. slice_index_or n.lives k None) (omega arith) ∙ e in
         let fits : fits_kind (Some life) ≡ true = sym (ap fits_kind there) ∙ s.boxes.kinds (suc place) in
         dev life (mount_numbered n life.mount) refl (device-life device life h fits) (s.lives (suc place) life there)
+
     at : AnyPlace (is_backed_by (lies_on_device device)) n.lives None → ⊥
     at found = live found.place (slice_index_or n.lives found.place None) refl found.holds
 
@@ -306,16 +287,16 @@ module _ (n : Namespace) (mount : Mount) (s : Stands Nothing n) (may : MayMount 
       | inr e ↦ kept-other u e ∙ elim (s.boxes.named u) [
         | inl h ↦ h
         | inr h ↦
-          let name = (volume_at n u).name in
-          let now : (is_mounted n fs.Cell name || ((same_type mount.fs fs.Cell && same_bytes mount.source name) || false)) ≡ true =
-          sym (ap (is_mounted (with_kept (with_one n mount) (volume_named n mount.source) []) fs.Cell) (kept-name u) ∙ mounted-then (with_kept (with_one n mount) (volume_named n mount.source) []) name refl) ∙ k in
-          elim (or-either (is_mounted n fs.Cell name) _ now) [
-            | inl x ↦ s.boxes.mounted u x
-            | inr x ↦
-              let same : same_bytes mount.source name ≡ true = and-second (same_type mount.fs fs.Cell) (same_bytes mount.source name) (or-only _ x) in
-              let word : mount.source ≡ name = (bytes_decides mount.source name).0 same in
-              absurd (e (sym h ∙ ap (volume_named n) (sym word)))
-          ]
+            let name = (volume_at n u).name in
+            let now : (is_mounted n fs.Cell name || ((same_type mount.fs fs.Cell && same_bytes mount.source name) || false)) ≡ true =
+            sym (ap (is_mounted (with_kept (with_one n mount) (volume_named n mount.source) []) fs.Cell) (kept-name u) ∙ mounted-then (with_kept (with_one n mount) (volume_named n mount.source) []) name refl) ∙ k in
+            elim (or-either (is_mounted n fs.Cell name) _ now) [
+              | inl x ↦ s.boxes.mounted u x
+              | inr x ↦
+                  let same : same_bytes mount.source name ≡ true = and-second (same_type mount.fs fs.Cell) (same_bytes mount.source name) (or-only _ x) in
+                  let word : mount.source ≡ name = (bytes_decides mount.source name).0 same in
+                  absurd (e (sym h ∙ ap (volume_named n) (sym word)))
+            ]
       ]
     ];
     kept = λ u. elim (same-or-other u (volume_named n mount.source)) [
@@ -418,7 +399,7 @@ module _ (n : Namespace) (mount : Mount) (s : Stands Nothing n) (may : MayMount 
   pending-own v cell e [] = refl
   pending-own v cell e (entry ∷ nodes) =
       let one : pending (map (λ entry. (entry.0, kept_origin (volume_named n mount.source) entry.1)) (entry ∷ nodes)) v cell
-          ≡ one_if (begins_on v cell (kept_origin (volume_named n mount.source) entry.1)) + pending (map (λ entry. (entry.0, kept_origin (volume_named n mount.source) entry.1)) nodes) v cell =
+      ≡ one_if (begins_on v cell (kept_origin (volume_named n mount.source) entry.1)) + pending (map (λ entry. (entry.0, kept_origin (volume_named n mount.source) entry.1)) nodes) v cell =
       sum_by-cons (λ entry. one_if (begins_on v cell entry.1)) (entry.0, kept_origin (volume_named n mount.source) entry.1) (map (λ entry. (entry.0, kept_origin (volume_named n mount.source) entry.1)) nodes) in
       let other : count_by (λ entry. is_kept_on cell entry.1) (entry ∷ nodes) ≡ one_if (is_kept_on cell entry.1) + count_by (λ entry. is_kept_on cell entry.1) nodes =
       sum_by-cons (λ entry. one_if (is_kept_on cell entry.1)) entry nodes in
@@ -435,7 +416,7 @@ module _ (n : Namespace) (mount : Mount) (s : Stands Nothing n) (may : MayMount 
   pending-other v cell e [] = refl
   pending-other v cell e (entry ∷ nodes) =
       let one : pending (map (λ entry. (entry.0, kept_origin (volume_named n mount.source) entry.1)) (entry ∷ nodes)) v cell
-          ≡ one_if (begins_on v cell (kept_origin (volume_named n mount.source) entry.1)) + pending (map (λ entry. (entry.0, kept_origin (volume_named n mount.source) entry.1)) nodes) v cell =
+      ≡ one_if (begins_on v cell (kept_origin (volume_named n mount.source) entry.1)) + pending (map (λ entry. (entry.0, kept_origin (volume_named n mount.source) entry.1)) nodes) v cell =
       sum_by-cons (λ entry. one_if (begins_on v cell entry.1)) (entry.0, kept_origin (volume_named n mount.source) entry.1) (map (λ entry. (entry.0, kept_origin (volume_named n mount.source) entry.1)) nodes) in
       let same = ap one_if (off-cell entry.1) in
       let later = pending-other v cell e nodes in
@@ -457,14 +438,14 @@ module _ (n : Namespace) (mount : Mount) (s : Stands Nothing n) (may : MayMount 
       let spare = ap (λ xs. one_if (slice_index_or xs cell false)) (kept-spare v) in
       elim (same-or-other v (volume_named n mount.source)) [
         | inl e ↦
-          let now = ap (λ nodes. count_by (is_backed_by (lies_on_cell v cell)) n.lives + count_by (λ entry. is_kept_on cell entry.1) nodes) (kept-own v e) in
-          let some = pending-own v cell e (volume_at n (volume_named n mount.source)).kept in
-          let were = ap (λ k. count_by (λ entry. is_kept_on cell entry.1) (volume_at n k).kept) e in
-          omega (arith, before, spare, now, some, were)
+            let now = ap (λ nodes. count_by (is_backed_by (lies_on_cell v cell)) n.lives + count_by (λ entry. is_kept_on cell entry.1) nodes) (kept-own v e) in
+            let some = pending-own v cell e (volume_at n (volume_named n mount.source)).kept in
+            let were = ap (λ k. count_by (λ entry. is_kept_on cell entry.1) (volume_at n k).kept) e in
+            omega (arith, before, spare, now, some, were)
         | inr e ↦
-          let now = ap (λ nodes. count_by (is_backed_by (lies_on_cell v cell)) n.lives + count_by (λ entry. is_kept_on cell entry.1) nodes) (kept-other v e) in
-          let none = pending-other v cell e (volume_at n (volume_named n mount.source)).kept in
-          omega (arith, before, spare, now, none)
+            let now = ap (λ nodes. count_by (is_backed_by (lies_on_cell v cell)) n.lives + count_by (λ entry. is_kept_on cell entry.1) nodes) (kept-other v e) in
+            let none = pending-other v cell e (volume_at n (volume_named n mount.source)).kept in
+            omega (arith, before, spare, now, none)
       ]
 
   cell-fit : mount.fs ≡ fs.Cell → (nodes : List (Path × KeptNode)) →
@@ -517,7 +498,7 @@ module _ (n : Namespace) (mount : Mount) (s : Stands Nothing n) (may : MayMount 
   rom-pending v cell [] = refl
   rom-pending v cell (entry ∷ nodes) =
       let one : pending (map (λ entry. (entry.0, rom_origin (rom_at n mount.source) entry.0 entry.1)) (entry ∷ nodes)) v cell
-          ≡ one_if (begins_on v cell (rom_origin (rom_at n mount.source) entry.0 entry.1)) + pending (map (λ entry. (entry.0, rom_origin (rom_at n mount.source) entry.0 entry.1)) nodes) v cell =
+      ≡ one_if (begins_on v cell (rom_origin (rom_at n mount.source) entry.0 entry.1)) + pending (map (λ entry. (entry.0, rom_origin (rom_at n mount.source) entry.0 entry.1)) nodes) v cell =
       sum_by-cons (λ entry. one_if (begins_on v cell entry.1)) (entry.0, rom_origin (rom_at n mount.source) entry.0 entry.1) (map (λ entry. (entry.0, rom_origin (rom_at n mount.source) entry.0 entry.1)) nodes) in
       let none = ap one_if (off entry.1) in
       let later = rom-pending v cell nodes in

@@ -1,20 +1,13 @@
 -- A mount is removed: its names are kept, its files freed, and it goes.
-use Rattle.std.proofs.Common.{◌≡◌, ◌≢◌, ℕ, zero, suc, ◌+◌, ◌-◌, ◌*◌, ◌<◌, ◌≤◌, Bool, true, false, not, ◌||◌, ◌&&◌, ◌==◌, Option, Some, None, IsSomeAnd, List, [], ◌∷◌, ◌++◌, length, map, filter, find, fold, slice_index_or, slice_set, ◌⊎◌, inl, inr, if◌then◌else◌, refl, sym, ap, subst, ◌∙◌, arith}
-use Rattle.std.specs.List.{list_any}
-use Rattle.vfs_base.specs.Path.{Path}
-use Rattle.vfs_base.specs.declared.errno.Errno.TheVariants as errno
+use Rattle.std.proofs.Common.{◌≡◌, ℕ, zero, suc, ◌-◌, ◌*◌, ◌<◌, true, Some, None, IsSomeAnd, List, [], ◌∷◌, map, filter, fold, slice_index_or, slice_set, inl, inr, refl, sym, ap, subst, ◌∙◌, arith}
 use Rattle.vfs_base.specs.declared.kinds.FsType.{FsType}
 use Rattle.vfs_base.specs.declared.kinds.FsType.TheVariants as fs
-use Rattle.vfs_model.specs.Chain.{◌>>=◌, ◌>>◌, refuse◌when◌, wanted}
-use Rattle.vfs_model.specs.Consistency.{LivesFit, fits_mount, mount_numbered}
+use Rattle.vfs_model.specs.Consistency.{fits_mount, mount_numbered}
 use Rattle.vfs_model.specs.FileLife.{Rows, after_end, backing_of, end_of_unmounted, free_row, no_volume, volume_at, volume_named}
 use Rattle.vfs_model.specs.Homes.{cell_capacity, change_row}
-use Rattle.vfs_model.specs.Lookup.{asked_path, covering_mount, has_mount_below, is_below, with_tree}
-use Rattle.vfs_model.specs.NameSteps.{done}
-use Rattle.vfs_model.specs.Namespace.{all_mounts, folder_of, life_at, same_path, tree_of}
-use Rattle.vfs_model.specs.UmountSteps.{is_busy, keep_names, kept_node, mount_at_point, empty_mount, refers_to_mount, remove_mount, rows_of_mount, umount_at, umount_step}
-use Rattle.vfs_model.specs.declared.namespace.Backing.{Backing}
-use Rattle.vfs_model.specs.declared.namespace.Backing.TheVariants as backing
+use Rattle.vfs_model.specs.Lookup.{with_tree}
+use Rattle.vfs_model.specs.Namespace.{life_at, tree_of}
+use Rattle.vfs_model.specs.UmountSteps.{keep_names, kept_node, empty_mount, remove_mount, rows_of_mount}
 use Rattle.vfs_model.specs.declared.namespace.End.{End}
 use Rattle.vfs_model.specs.declared.namespace.End.TheVariants as end
 use Rattle.vfs_model.specs.declared.namespace.LiveFile.{LiveFile}
@@ -24,9 +17,8 @@ use Rattle.vfs_model.specs.declared.namespace.RowChange.{RowChange}
 use Rattle.vfs_model.specs.declared.world.World.{World}
 use Rattle.world_laws.proofs.Agreeing.{Agrees, agrees-beside}
 use Rattle.world_laws.proofs.Binding.{rest-stands}
-use Rattle.world_laws.proofs.Covering.{IsMount}
-use Rattle.world_laws.proofs.Emptying.{Empty, Emptied, empty-all, twice}
-use Rattle.world_laws.proofs.Lists.{nor-first, nor-second, same-or-other}
+use Rattle.world_laws.proofs.Emptying.{Empty, empty-all}
+use Rattle.world_laws.proofs.Lists.{same-or-other}
 use Rattle.world_laws.proofs.Standing.{Nothing, Stands}
 use Rattle.world_laws.proofs.Taking.{boxes-all, set-at}
 use Rattle.world_laws.proofs.Unmounting.{MayLeave, left-same, left_by, stays}
@@ -41,6 +33,7 @@ emptied-stands number m e = rest-stands Nothing m e.rest (boxes-all m e.cells e.
       | inr other ↦ e.lives row life h other
       | inl same ↦ absurd (e.whole row life l h same)
     ]
+
     fits : (row : ℕ) (life : LiveFile) → life_at m row ≡ Some life → IsSomeAnd (mount_numbered m life.mount) (λ mount. fits_mount m life mount ≡ true)
     fits zero life h = counted 1 life (omega arith) h
     fits (suc row) life h = counted (suc row) life (omega arith) h

@@ -1,43 +1,38 @@
 -- Renaming keeps what holds between steps.
-use Rattle.std.proofs.Common.{◌≡◌, ◌≢◌, ℕ, ◌+◌, ◌-◌, ◌<◌, ◌≤◌, Bool, true, false, not, ◌||◌, ◌&&◌, ◌==◌, Option, Some, None, is_some, List, [], ◌∷◌, ◌++◌, length, drop, slice_index_or, ◌⊎◌, inl, inr, Result, Ok, Err, if◌then◌else◌, refl, sym, ap, subst, ◌∙◌, arith, append_assoc}
+use Rattle.std.proofs.Common.{◌≡◌, ◌≢◌, ℕ, ◌-◌, ◌<◌, Bool, true, false, not, ◌||◌, ◌&&◌, ◌==◌, Option, Some, None, is_some, List, [], ◌∷◌, ◌++◌, length, drop, slice_index_or, ◌⊎◌, inl, inr, Ok, if◌then◌else◌, refl, sym, ap, subst, ◌∙◌, arith, append_assoc}
 use Rattle.std.proofs.lemmas.List.{append-nil, get_or_past}
 use Rattle.std.proofs.lemmas.Bool.{ltb-true}
 use Rattle.std.specs.Prelude.{nat_lt}
 use Rattle.std.specs.FinMap.Entries.{find as value_at}
 use Rattle.std.specs.List.{list_any}
 use Rattle.vfs_base.specs.Path.{Path, path_cmp}
-use Rattle.vfs_base.specs.declared.errno.Errno.{Errno}
 use Rattle.vfs_base.specs.declared.errno.Errno.TheVariants as errno
-use Rattle.vfs_base.specs.declared.ids.FileId.{FileId}
-use Rattle.vfs_base.specs.declared.kinds.Kind.{Kind}
 use Rattle.vfs_base.specs.declared.kinds.NodeKind.{NodeKind}
 use Rattle.vfs_base.specs.declared.kinds.NodeKind.TheVariants as node
 use Rattle.vfs_base.specs.declared.reply.Reply.TheVariants as reply
 use Rattle.vfs_model.proofs.MountsApart.{standing-apart}
 use Rattle.vfs_model.proofs.RenameLaws.{covering-below, rest-below}
 use Rattle.vfs_model.specs.NamespaceOutcome.{answers}
-use Rattle.vfs_model.proofs.MovedLaws.{below-longer, none-below, prefix-append}
-use Rattle.vfs_model.proofs.Trees.{prefix-splits, same_path-is, same_path-itself, same_path-other}
-use Rattle.vfs_model.specs.Chain.{◌>>=◌, ◌>>◌, refuse◌when◌, refuse_by, wanted}
-use Rattle.vfs_model.specs.Consistency.{FoldersStand, IsClosedTree}
+use Rattle.vfs_model.proofs.MovedLaws.{below-longer, none-below}
+use Rattle.vfs_model.proofs.Trees.{prefix-splits, same_path-is, same_path-itself}
+use Rattle.vfs_model.specs.Chain.{refuse◌when◌, refuse_by}
+use Rattle.vfs_model.specs.Consistency.{IsClosedTree}
 use Rattle.vfs_model.specs.Laws.{HasNoPoint}
-use Rattle.vfs_model.specs.Lookup.{asked_path, covering_mount, has_folder_within, has_mount_below, has_nodes, is_below, is_dir_node, is_file, is_file_node, is_folder, is_point, is_prefix, is_read_only, is_there, is_working_directory, node_at, node_in, rest_of, walk_refusal}
+use Rattle.vfs_model.specs.Lookup.{asked_path, covering_mount, has_folder_within, has_mount_below, has_nodes, is_below, is_dir_node, is_file, is_folder, is_point, is_prefix, is_there, is_working_directory, node_at, node_in, rest_of, walk_refusal}
 use Rattle.vfs_model.specs.NameSteps.{after_loss, done}
 use Rattle.vfs_model.specs.Namespace.{Tree, all_mounts, folder_of, same_path, tree_of}
 use Rattle.vfs_model.specs.RenameStep.{move_at, move_refusals, rename_at, rename_refusals, rename_step, with_moved}
-use Rattle.vfs_model.specs.declared.namespace.Mount.{Mount}
 use Rattle.vfs_model.specs.declared.namespace.Namespace.{Namespace}
 use Rattle.world_laws.proofs.Clear.{below-prefix, clear-of-points}
-use Rattle.world_laws.proofs.Covering.{covers-prefix, covering-is, prefix-append-both, prefix-length, same-prefix, splits}
-use Rattle.world_laws.proofs.Keeping.{Keeps, Kept, absent-none, bind-kept, live-row, lost-kept, names-kept, same-kept, then-kept, there-file, there-folder}
-use Rattle.world_laws.proofs.Lists.{AnyKey, AnyPlace, any-key, any-place, below-or-past, neither, no-place, nor-first, nor-second, or-either, or-first, or-second, place-any, same-number, true-or-false}
-use Rattle.world_laws.proofs.NameKeeping.{below-point, file-below, no-folder, node-there, not-root}
+use Rattle.world_laws.proofs.Covering.{prefix-append-both, prefix-length, same-prefix, splits}
+use Rattle.world_laws.proofs.Keeping.{Kept, bind-kept, live-row, lost-kept, names-kept, same-kept, then-kept}
+use Rattle.world_laws.proofs.Lists.{AnyKey, AnyPlace, any-key, any-place, below-or-past, no-place, nor-first, nor-second, or-either, same-number, true-or-false}
+use Rattle.world_laws.proofs.NameKeeping.{below-point, no-folder, not-root}
 use Rattle.world_laws.proofs.Nodes.{at-rest, number_at, parent-dir, prefix-itself, tree_at}
-use Rattle.world_laws.proofs.Passing.{and-both, and-first, and-second, refuse-passed, refuse_by-passed, then-first, then-rest}
+use Rattle.world_laws.proofs.Passing.{and-first, and-second, refuse-passed, refuse_by-passed, then-first, then-rest}
 use Rattle.world_laws.proofs.Renaming.{MayRename, moves-stands, replaces-stands}
-use Rattle.world_laws.proofs.Standing.{Nothing, Only, Stands}
-use Rattle.world_laws.proofs.TreeMoves.{MayMove, t-true}
-use Rattle.world_laws.proofs.TreeParts.{LastName, at-node, named, not-empty, same-or-other-path}
+use Rattle.world_laws.proofs.Standing.{Nothing, Stands}
+use Rattle.world_laws.proofs.TreeParts.{at-node, named, not-empty}
 
 -- what stands above something in a closed tree is a folder
 one-up : (tree : Tree) → IsClosedTree is_dir_node tree → (front : Path) (name : List ℕ) → front ≢ [] → is_some (value_at path_cmp (front ++ name ∷ []) tree) ≡ true →
@@ -73,6 +68,7 @@ bare-unless-folder tree rest closed h file = elim (true-or-false (list_any (λ e
     behind path [] found there split l = let same = ap (λ x. length x) (split ∙ append-nil rest) in omega (arith, same, l)
     behind path (name ∷ names) found there split l =
         let dir = up-dir tree closed names rest name h (ap is_some (sym (ap (λ x. value_at path_cmp x tree) split) ∙ there)) in absurd (cc)
+
     found : AnyKey (is_below rest) tree → ⊥
     found at =
         let prefix = and-first (is_prefix rest at.path) (nat_lt (length rest) (length at.path)) at.holds in
@@ -172,6 +168,7 @@ folder-apart n p k s clear bare some other = elim (true-or-false (is_prefix p (f
     front-some : (a b : Path) → a ≢ [] → a ++ b ≢ []
     front-some [] b h e = h refl
     front-some (x ∷ a) b h e = absurd (cc)
+
     below : (left : Path) → folder_of n k ≡ p ++ left → ⊥
     below [] e = other (e ∙ append-nil p)
     below (name ∷ names) e =
@@ -235,11 +232,11 @@ module _ (n : Namespace) (old new : Path) (s : Stands Nothing n) (p : Passed n o
   rests-apart = elim (true-or-false (is_prefix (rest_of n old) (rest_of n new))) [
     | inr h ↦ h
     | inl h ↦
-      let point = (covering_mount n new).point in
-      let both : is_prefix (point ++ rest_of n old) (point ++ rest_of n new) ≡ true = prefix-append-both point (rest_of n old) (rest_of n new) h in
-      let one : point ++ rest_of n old ≡ old = ap (λ x. x ++ rest_of n old) (sym same-point) ∙ sym (splits n old s.folders) in
-      let other : point ++ rest_of n new ≡ new = sym (splits n new s.folders) in
-      absurd (not-within (subst (λ x. is_prefix x new ≡ true) one (subst (λ x. is_prefix (point ++ rest_of n old) x ≡ true) other both)))
+        let point = (covering_mount n new).point in
+        let both : is_prefix (point ++ rest_of n old) (point ++ rest_of n new) ≡ true = prefix-append-both point (rest_of n old) (rest_of n new) h in
+        let one : point ++ rest_of n old ≡ old = ap (λ x. x ++ rest_of n old) (sym same-point) ∙ sym (splits n old s.folders) in
+        let other : point ++ rest_of n new ≡ new = sym (splits n new s.folders) in
+        absurd (not-within (subst (λ x. is_prefix x new ≡ true) one (subst (λ x. is_prefix (point ++ rest_of n old) x ≡ true) other both)))
   ]
 
   same-tree : tree_at n new ≡ tree_at n old

@@ -1,9 +1,9 @@
 -- The steps on names keep what holds between steps.
-use Rattle.std.proofs.Common.{◌≡◌, ◌≢◌, ℕ, ◌+◌, ◌-◌, ◌<◌, ◌≤◌, Bool, true, false, not, ◌||◌, ◌&&◌, ◌==◌, Option, Some, None, is_some, List, [], ◌∷◌, ◌++◌, length, drop, slice_index_or, slice_set, ◌⊎◌, inl, inr, Result, Ok, Err, if◌then◌else◌, refl, sym, ap, subst, ◌∙◌, arith}
+use Rattle.std.proofs.Common.{◌≡◌, ◌≢◌, ℕ, ◌-◌, ◌≤◌, Bool, true, false, not, ◌==◌, Some, None, is_some, List, [], ◌∷◌, ◌++◌, length, ◌⊎◌, inl, inr, Result, Ok, Err, if◌then◌else◌, refl, sym, ap, subst, ◌∙◌, arith}
 use Rattle.std.proofs.lemmas.Bool.{ltb-false}
 use Rattle.std.proofs.lemmas.List.{append-nil, get_or_past}
 use Rattle.std.specs.FinMap.Entries.{find as value_at}
-use Rattle.std.specs.List.{list_any, fold}
+use Rattle.std.specs.List.{list_any}
 use Rattle.std.specs.Prelude.{nat_lt}
 use Rattle.vfs_base.specs.Path.{Path, path_cmp, printed}
 use Rattle.vfs_base.specs.declared.errno.Errno.{Errno}
@@ -14,22 +14,22 @@ use Rattle.vfs_base.specs.declared.kinds.NodeKind.{NodeKind}
 use Rattle.vfs_base.specs.declared.kinds.NodeKind.TheVariants as node
 use Rattle.vfs_model.proofs.MovedLaws.{below-longer, none-below}
 use Rattle.vfs_model.proofs.Trees.{same_path-itself, same_path-other}
-use Rattle.vfs_model.specs.Chain.{◌>>=◌, ◌>>◌, refuse◌when◌, refuse_by, wanted}
+use Rattle.vfs_model.specs.Chain.{refuse◌when◌, refuse_by}
 use Rattle.vfs_model.specs.Consistency.{FoldersStand}
 use Rattle.vfs_model.specs.Lookup.{asked_path, covering_mount, has_nodes, is_dir_node, is_file, is_folder, is_full, is_point, is_read_only, is_there, is_working_directory, node_at, node_in, or_errno, rest_of, walk_refusal, with_node}
-use Rattle.vfs_model.specs.NameSteps.{after_loss, chdir_step, cwd_step, done, folder_refusals, home_step, list_step, mkdir_refusals, mkdir_step, rmdir_refusals, rmdir_step, stat_step, unlink_refusals, unlink_step, without_node}
-use Rattle.vfs_model.specs.Namespace.{all_mounts, folder_of, same_path, tree_of, with_folder_of}
+use Rattle.vfs_model.specs.NameSteps.{after_loss, chdir_step, done, folder_refusals, home_step, list_step, mkdir_refusals, mkdir_step, rmdir_refusals, rmdir_step, stat_step, unlink_refusals, unlink_step, without_node}
+use Rattle.vfs_model.specs.Namespace.{all_mounts, folder_of, same_path, with_folder_of}
 use Rattle.vfs_model.specs.NormalPath.{TextFault, is_long_path, is_long_part, is_zero, normal_path, parts_of, place_of}
 use Rattle.vfs_model.specs.declared.namespace.Namespace.{Namespace}
 use Rattle.world_laws.proofs.Covering.{covering-is, splits}
-use Rattle.world_laws.proofs.Keeping.{Keeps, Kept, absent-none, bind-kept, live-row, lost-kept, names-kept, same-kept, then-kept, there-file, there-folder, wanted-kept}
+use Rattle.world_laws.proofs.Keeping.{Kept, absent-none, bind-kept, live-row, lost-kept, names-kept, same-kept, then-kept, there-file, there-folder, wanted-kept}
 use Rattle.world_laws.proofs.Lists.{below-or-past, neither, no-place, place-any, true-or-false}
 use Rattle.world_laws.proofs.Nodes.{at-rest, folder-comes, number_at, tree_at}
 use Rattle.world_laws.proofs.Passing.{refuse-passed, refuse_by-passed, then-first, then-rest}
 use Rattle.world_laws.proofs.Referring.{folder-stands}
 use Rattle.world_laws.proofs.Removing.{MayGo, file-gone, folder-gone}
-use Rattle.world_laws.proofs.Standing.{Nothing, Only, Stands}
-use Rattle.world_laws.proofs.TreeParts.{at-node, not-empty}
+use Rattle.world_laws.proofs.Standing.{Nothing, Stands}
+use Rattle.world_laws.proofs.TreeParts.{at-node}
 
 pub stat-kept : (n : Namespace) (k : ℕ) (text : List ℕ) → Stands Nothing n → Kept n (stat_step n k text)
 stat-kept n k text s =
@@ -121,9 +121,9 @@ below-point n p f unpointed e =
 pub no-folder : (n : Namespace) (p : Path) → p ≢ [] → is_working_directory n p ≡ false → (k : ℕ) → folder_of n k ≢ p
 no-folder n p h free k e = elim (below-or-past (k - 1) (length n.folders)) [
   | inl l ↦
-    let none : same_path p (folder_of n k) ≡ false = no-place (same_path p) n.folders (k - 1) [] free l in
-    let same : same_path p (folder_of n k) ≡ true = ap (same_path p) e ∙ same_path-itself p in
-    absurd (cc)
+      let none : same_path p (folder_of n k) ≡ false = no-place (same_path p) n.folders (k - 1) [] free l in
+      let same : same_path p (folder_of n k) ≡ true = ap (same_path p) e ∙ same_path-itself p in
+      absurd (cc)
   | inr l ↦ h (sym e ∙ get_or_past n.folders (k - 1) [] l)
 ]
 

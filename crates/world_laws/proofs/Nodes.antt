@@ -1,8 +1,8 @@
 -- A node is put at a path, and one is taken away.
-use Rattle.std.proofs.Common.{◌≡◌, ◌≢◌, ℕ, ◌-◌, ◌<◌, ◌≤◌, Bool, true, false, not, ◌||◌, Option, Some, None, is_some, List, [], ◌∷◌, ◌++◌, length, drop, slice_index_or, ◌⊎◌, inl, inr, refl, sym, ap, subst, ◌∙◌, arith, append_assoc, unwrap_or, ◌&&◌, ◌==◌}
+use Rattle.std.proofs.Common.{◌≡◌, ◌≢◌, ℕ, ◌<◌, true, false, Option, Some, None, [], ◌∷◌, ◌++◌, length, drop, slice_index_or, ◌⊎◌, inl, inr, refl, sym, ap, subst, ◌∙◌, append_assoc, unwrap_or, ◌&&◌, ◌==◌}
 use Rattle.std.proofs.lemmas.List.{append-nil}
 use Rattle.std.specs.Prelude.{nat_lt}
-use Rattle.std.proofs.lemmas.Bool.{ltb-true, leb-false}
+use Rattle.std.proofs.lemmas.Bool.{leb-false}
 use Rattle.std.specs.FinMap.Entries.{find as value_at, put}
 use Rattle.std.specs.List.{list_any}
 use Rattle.vfs_base.specs.Path.{Path, path_cmp}
@@ -12,20 +12,19 @@ use Rattle.vfs_base.specs.declared.kinds.NodeKind.{NodeKind}
 use Rattle.vfs_base.specs.declared.kinds.NodeKind.TheVariants as node
 use Rattle.vfs_model.proofs.MovedLaws.{prefix-append}
 use Rattle.vfs_model.proofs.MountsApart.{standing-apart}
-use Rattle.vfs_model.proofs.NodeLaws.{put-other, taken-other}
-use Rattle.vfs_model.proofs.Trees.{at-put-here, at-put-other, at-without-here, at-without-other, same_path-itself}
-use Rattle.vfs_model.specs.Consistency.{FoldersStand, IsClosedTree, IsLive, covered_mount, is_number}
-use Rattle.vfs_model.specs.Lookup.{covering_mount, has_nodes, is_below, is_dir_node, is_folder, is_full, is_prefix, is_there, node_at, node_in, rest_of, walk_refusal, with_node, with_tree}
-use Rattle.vfs_model.specs.NameSteps.{without_node}
-use Rattle.vfs_model.specs.Namespace.{Tree, all_mounts, folder_of, same_path, tree_of}
+use Rattle.vfs_model.proofs.NodeLaws.{put-other}
+use Rattle.vfs_model.proofs.Trees.{at-put-here, at-put-other}
+use Rattle.vfs_model.specs.Consistency.{FoldersStand, IsLive, covered_mount, is_number}
+use Rattle.vfs_model.specs.Lookup.{covering_mount, is_below, is_dir_node, is_folder, is_full, is_prefix, node_at, node_in, rest_of, walk_refusal, with_node, with_tree}
+use Rattle.vfs_model.specs.Namespace.{Tree, all_mounts, folder_of, tree_of}
 use Rattle.vfs_model.specs.declared.namespace.Mount.{Mount}
 use Rattle.vfs_model.specs.declared.namespace.Namespace.{Namespace}
-use Rattle.world_laws.proofs.Covering.{IsMount, any-default, covering-is, covers-front, drop-front, splits, walked}
+use Rattle.world_laws.proofs.Covering.{covering-is, covers-front, splits, walked}
 use Rattle.world_laws.proofs.Growing.{MayStand, tree-other, tree-own, tree-stands}
-use Rattle.world_laws.proofs.Lists.{same-or-other, place-any, number-itself, none-or-some, nor-first, nor-second, true-or-false}
+use Rattle.world_laws.proofs.Lists.{same-or-other, place-any, number-itself}
 use Rattle.world_laws.proofs.Points.{point-apart}
-use Rattle.world_laws.proofs.Standing.{IsUsed, Linked, LinkedIn, Nothing, Only, Stands}
-use Rattle.world_laws.proofs.TreeParts.{LastName, at-node, filter-none, named, not-empty, put-closed, put-none, same-or-other-path, without, without-closed}
+use Rattle.world_laws.proofs.Standing.{IsUsed, Linked, Nothing, Only, Stands}
+use Rattle.world_laws.proofs.TreeParts.{LastName, at-node, named, not-empty, put-closed, put-none, same-or-other-path}
 
 -- the number and the tree of the mount that covers a path
 abbrev pub number_at : Namespace → Path → ℕ
@@ -37,10 +36,11 @@ tree_at n p = tree_of n (number_at n p)
 pub covering-number : (n : Namespace) (p : Path) → FoldersStand n → (number_at n p < 16) × (is_number n (number_at n p) ≡ true)
 covering-number n p f =
     let m = covering-is n p f in
-    let same : slice_index_or (all_mounts n) m.place (covering_mount n p) ≡ covering_mount n p = m.is in
-    (subst (λ x. x.number < 16) same (f.numbers m.place (covering_mount n p) m.within),
-    place-any (λ mount. mount.number == number_at n p) (all_mounts n) m.place (covering_mount n p) m.within
-    (ap (λ x. x.number == number_at n p) same ∙ number-itself (number_at n p)))
+    let same : slice_index_or (all_mounts n) m.place (covering_mount n p) ≡ covering_mount n p = m.is in (
+      subst (λ x. x.number < 16) same (f.numbers m.place (covering_mount n p) m.within),
+      place-any (λ mount. mount.number == number_at n p) (all_mounts n) m.place (covering_mount n p) m.within
+          (ap (λ x. x.number == number_at n p) same ∙ number-itself (number_at n p)),
+    )
 
 -- an absent path is below its mount's point, and its parent is a folder of the mount
 pub record Absent (n : Namespace) (p : Path) : Type 0 where
@@ -105,8 +105,8 @@ module _ (Excused : ℕ → Type 0) (n : Namespace) (p : Path) (new : NodeKind) 
       ((q ≡ rest_of n p) × (new ≡ node.File id kind)) ⊎ ((q ≢ rest_of n p) × (value_at path_cmp q (tree_at n p) ≡ Some (node.File id kind)))
   put-file q id kind h = elim (same-or-other-path q (rest_of n p)) [
     | inl e ↦
-      let there : Some new ≡ Some (node.File id kind) = sym (at-put-here (rest_of n p) new (tree_at n p)) ∙ ap (λ r. value_at path_cmp r (put path_cmp (rest_of n p) new (tree_at n p))) (sym e) ∙ h in
-      inl (e, ap (λ found. unwrap_or found new) there)
+        let there : Some new ≡ Some (node.File id kind) = sym (at-put-here (rest_of n p) new (tree_at n p)) ∙ ap (λ r. value_at path_cmp r (put path_cmp (rest_of n p) new (tree_at n p))) (sym e) ∙ h in
+        inl (e, ap (λ found. unwrap_or found new) there)
     | inr e ↦ inr (e, sym (at-put-other (rest_of n p) q new (tree_at n p) e) ∙ h)
   ]
 
@@ -156,6 +156,7 @@ module _ (Excused : ℕ → Type 0) (n : Namespace) (p : Path) (new : NodeKind) 
     where
       not-below : (rest : Path) → is_prefix rest (rest_of n p) ≡ false → is_below rest (rest_of n p) ≡ false
       not-below rest h = ap (λ b. b && nat_lt (length rest) (length (rest_of n p))) h
+
       node-other : (rest : Path) → rest ≢ rest_of n p → node_in (put path_cmp (rest_of n p) new (tree_at n p)) rest ≡ node_in (tree_at n p) rest
       node-other [] h = refl
       node-other (name ∷ names) h = at-put-other (rest_of n p) (name ∷ names) new (tree_at n p) h
@@ -244,6 +245,7 @@ file-comes n p id kind s walk h room live unlinked =
   where
     fresh : IsFresh n (number_at n p) (node.File id kind)
     fresh other like e =
-        let same = file-same id other kind like (ap Some e) in
-        (subst (λ x. IsLive n x like (number_at n p)) same (subst (λ x. IsLive n id x (number_at n p)) (kind-same id other kind like e) live),
-        λ linked. unlinked (subst (λ x. Linked n x.row) (sym same) linked))
+        let same = file-same id other kind like (ap Some e) in (
+          subst (λ x. IsLive n x like (number_at n p)) same (subst (λ x. IsLive n id x (number_at n p)) (kind-same id other kind like e) live),
+          λ linked. unlinked (subst (λ x. Linked n x.row) (sym same) linked),
+        )

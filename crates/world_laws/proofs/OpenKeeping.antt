@@ -1,19 +1,17 @@
 -- Opening a file keeps what holds between steps, also where the file is made.
-use Rattle.std.proofs.Common.{◌≡◌, ◌≢◌, ℕ, zero, suc, ◌+◌, ◌-◌, ◌*◌, ◌<◌, ◌≤◌, Bool, true, false, not, ◌||◌, ◌&&◌, ◌==◌, Option, Some, None, is_some, is_none, IsSomeAnd, List, [], ◌∷◌, ◌++◌, length, map, zip, find, fold, slice_index_or, slice_set, ◌⊎◌, inl, inr, Result, Ok, Err, if◌then◌else◌, refl, sym, ap, subst, ◌∙◌, arith}
-use Rattle.std.proofs.lemmas.Bool.{ltb-false, leb-false, ltb-true}
+use Rattle.std.proofs.Common.{◌≡◌, ℕ, zero, suc, ◌+◌, ◌-◌, ◌*◌, ◌<◌, ◌≤◌, Bool, true, false, not, ◌||◌, ◌&&◌, ◌==◌, Option, Some, None, is_none, IsSomeAnd, List, [], ◌∷◌, length, map, zip, find, slice_index_or, inl, inr, Ok, if◌then◌else◌, refl, sym, ap, subst, ◌∙◌, arith}
+use Rattle.std.proofs.lemmas.Bool.{ltb-false, leb-false}
 use Rattle.std.proofs.lemmas.List.{get_or_past}
 use Rattle.std.proofs.lemmas.List.Sums.{passes_at_first}
 use Rattle.std.proofs.lemmas.Slice.Zip.{get_or-zip, length-zip}
 use Rattle.std.proofs.Math.ListN.{get_or-map}
 use Rattle.std.specs.FinMap.Entries.{find as value_at}
-use Rattle.std.specs.List.{list_any, position_or_len}
-use Rattle.std.specs.Prelude.{nat_lt, nat_le, min, slice_range}
+use Rattle.std.specs.List.{position_or_len}
+use Rattle.std.specs.Prelude.{nat_lt, min, slice_range}
 use Rattle.vfs_model.specs.declared.namespace.Role.TheVariants as role
 use Rattle.vfs_base.specs.Path.{Path, path_cmp}
-use Rattle.vfs_base.specs.declared.errno.Errno.{Errno}
 use Rattle.vfs_base.specs.declared.errno.Errno.TheVariants as errno
 use Rattle.vfs_base.specs.declared.flags.OpenFlags.{OpenFlags}
-use Rattle.vfs_base.specs.declared.ids.FileId.{FileId}
 use Rattle.vfs_base.specs.declared.kinds.FsType.{FsType}
 use Rattle.vfs_base.specs.declared.kinds.FsType.TheVariants as fs
 use Rattle.vfs_base.specs.declared.kinds.Kind.{Kind}
@@ -21,20 +19,18 @@ use Rattle.vfs_base.specs.declared.kinds.Kind.TheVariants as kind
 use Rattle.vfs_base.specs.declared.kinds.NodeKind.{NodeKind}
 use Rattle.vfs_base.specs.declared.kinds.NodeKind.TheVariants as node
 use Rattle.vfs_model.specs.Boxes.{fits_kind}
-use Rattle.vfs_model.specs.Chain.{◌>>=◌, ◌>>◌, refuse◌when◌, refuse_by, wanted}
-use Rattle.vfs_model.specs.Consistency.{FoldersStand, IsLive, fits_mount, is_number, mount_numbered, same_kind}
-use Rattle.vfs_model.specs.FileLife.{Rows, after_taking, bind_row, free_rows, is_free_row, least_free_row, next_file, no_volume, volume_at, volume_named, with_cell, with_device}
+use Rattle.vfs_model.specs.Chain.{refuse◌when◌, refuse_by}
+use Rattle.vfs_model.specs.Consistency.{FoldersStand, IsLive, fits_mount, mount_numbered, same_kind}
+use Rattle.vfs_model.specs.FileLife.{Rows, after_taking, bind_row, free_rows, is_free_row, least_free_row, next_file, no_volume, volume_at, volume_named}
 use Rattle.vfs_model.specs.Homes.{cell_capacity, change_row}
 use Rattle.vfs_model.specs.Lookup.{asked_path, covering_mount, is_file, is_folder, is_full, is_read_only, is_read_only_type, is_there, node_at, rest_of, walk_refusal, with_node}
-use Rattle.vfs_model.specs.Namespace.{all_mounts, generation_at, life_at, tree_of, with_reference}
-use Rattle.vfs_model.specs.OpenStep.{creates, for_reading, for_writing, has_no_room, is_exclusive, is_rom_node, is_without_cell, kind_of, least_free_number, least_spare_cell, make_file, new_backing, new_life, new_origin, open_at, open_file, open_refusals, open_step, truncates, with_file_at}
+use Rattle.vfs_model.specs.Namespace.{all_mounts, generation_at, life_at, with_reference}
+use Rattle.vfs_model.specs.OpenStep.{creates, for_reading, for_writing, has_no_room, is_exclusive, is_rom_node, is_without_cell, kind_of, least_free_number, least_spare_cell, make_file, new_backing, new_life, new_origin, open_at, open_file, open_refusals, open_step, truncates}
 use Rattle.vfs_model.specs.declared.namespace.Backing.{Backing}
 use Rattle.vfs_model.specs.declared.namespace.Backing.TheVariants as backing
 use Rattle.vfs_model.specs.declared.namespace.LiveFile.{LiveFile}
 use Rattle.vfs_model.specs.declared.namespace.Mount.{Mount}
 use Rattle.vfs_model.specs.declared.namespace.Namespace.{Namespace}
-use Rattle.vfs_model.specs.declared.namespace.Origin.{Origin}
-use Rattle.vfs_model.specs.declared.namespace.Origin.TheVariants as origin
 use Rattle.vfs_model.specs.declared.namespace.Reference.{Reference}
 use Rattle.vfs_model.specs.declared.namespace.RowChange.TheVariants as change
 use Rattle.vfs_model.specs.declared.world.World.{World}
@@ -42,13 +38,13 @@ use Rattle.world_laws.proofs.Agreeing.{Agrees, Begins, agrees-beside, bind-agree
 use Rattle.world_laws.proofs.Binding.{IsFreeBacking, MayBind, some-life, bind-stands, next_generations}
 use Rattle.world_laws.proofs.Covering.{IsMount, covering-is}
 use Rattle.world_laws.proofs.FileKeepingSteps.{free-place, place_of}
-use Rattle.world_laws.proofs.Keeping.{Keeps, Kept, absent-none, bind-kept, names-kept, same-kept, then-kept, wanted-kept}
-use Rattle.world_laws.proofs.Lists.{below-or-past, nor-first, nor-second, number-itself, same-number, set-here, true-or-false}
+use Rattle.world_laws.proofs.Keeping.{Keeps, Kept, absent-none, bind-kept, same-kept, then-kept}
+use Rattle.world_laws.proofs.Lists.{below-or-past, nor-first, nor-second, number-itself, same-number, set-here}
 use Rattle.world_laws.proofs.NameKeeping.{file-below, node-there}
-use Rattle.world_laws.proofs.Nodes.{covering-number, file-comes, number_at, tree_at}
-use Rattle.world_laws.proofs.Passing.{and-both, and-first, and-second, refuse-passed, refuse_by-passed, then-first, then-rest}
-use Rattle.world_laws.proofs.Referring.{IsGood, refer-stands, with_place}
-use Rattle.world_laws.proofs.Standing.{Linked, LinkedIn, Nothing, Only, Stands}
+use Rattle.world_laws.proofs.Nodes.{covering-number, file-comes, number_at}
+use Rattle.world_laws.proofs.Passing.{and-both, and-first, refuse-passed, refuse_by-passed, then-first, then-rest}
+use Rattle.world_laws.proofs.Referring.{refer-stands}
+use Rattle.world_laws.proofs.Standing.{Linked, Nothing, Stands}
 use Rattle.world_laws.proofs.Taking.{cell-pages, with_life}
 
 -- a mount of the list is found by its number
@@ -92,6 +88,7 @@ free-at n lives generations l =
   where
     both : {a b : ℕ} → a ≡ 1024 → b ≡ 1024 → min a b ≡ 1024
     both e f = omega (arith, e, f)
+
     length-mapped : (xs : List (Option LiveFile × ℕ)) → length (map (λ row. is_free_row row.0 row.1) xs) ≡ length xs
     length-mapped [] = refl
     length-mapped (x ∷ xs) = ap suc (length-mapped xs)
@@ -183,6 +180,7 @@ make-stands n p row life may s walk absent room mount =
           (sym (ap (λ lives. slice_index_or lives (row - 1) None) same.0 ∙ set-here n.lives (row - 1) (Some life) None (subst (λ x. row - 1 < x) (sym s.sizes.lives) may.within)))
           (refl, mount ∙ sym (taken-number (with_life n row (Some life) (next_generations n row)) b p));
     }
+
     unlinked : (b : Backing) → Linked (after_taking (with_life n row (Some life) (next_generations n row)) b) row → Unit {0} → ⊥
     unlinked b linked u =
         let there = subst (λ trees. value_at path_cmp linked.path (slice_index_or trees linked.number []) ≡ Some (node.File linked.id linked.kind)) (taken-trees (with_life n row (Some life) (next_generations n row)) b) linked.there in

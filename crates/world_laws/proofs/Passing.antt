@@ -1,7 +1,7 @@
 -- What it tells that a chain of refusals was passed.
-use Rattle.std.proofs.Common.{◌≡◌, Bool, true, false, not, ◌&&◌, ◌||◌, Option, None, Some, Result, Ok, Err, if◌then◌else◌, refl}
+use Rattle.std.proofs.Common.{◌≡◌, Bool, true, false, ◌&&◌, Option, None, Some, Result, Ok, Err, if◌then◌else◌, refl}
 use Rattle.vfs_base.specs.declared.errno.Errno.{Errno}
-use Rattle.vfs_model.specs.Chain.{◌>>=◌, ◌>>◌, refuse◌when◌, refuse_by, wanted}
+use Rattle.vfs_model.specs.Chain.{◌>>◌, refuse◌when◌, refuse_by}
 
 pub refuse-passed : (errno : Errno) (test : Bool) → (refuse errno when test) ≡ Ok tt → test ≡ false
 refuse-passed errno true h = absurd (cc)

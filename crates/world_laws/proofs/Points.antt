@@ -1,17 +1,16 @@
 -- What a point covers is apart from the paths of the mount that it stands on.
-use Rattle.std.proofs.Common.{◌≡◌, ◌≢◌, ℕ, zero, suc, ◌+◌, ◌<◌, ◌≤◌, Bool, true, false, not, ◌&&◌, Option, Some, None, List, [], ◌∷◌, ◌++◌, length, drop, filter, slice_index_or, ◌⊎◌, inl, inr, refl, sym, ap, subst, ◌∙◌, arith, length-append, append_assoc, if◌then◌else◌}
+use Rattle.std.proofs.Common.{◌≡◌, ◌≢◌, ℕ, zero, suc, ◌+◌, ◌<◌, ◌≤◌, Bool, true, false, not, List, [], ◌∷◌, ◌++◌, length, drop, filter, slice_index_or, ◌⊎◌, inl, inr, refl, sym, ap, subst, ◌∙◌, arith, length-append, if◌then◌else◌}
 use Rattle.std.proofs.lemmas.List.{append-nil}
 use Rattle.vfs_base.specs.Path.{Path}
 use Rattle.vfs_model.proofs.CoveringMounts.{IsOneOf, nearest-among, nearest-prefix}
 use Rattle.vfs_model.proofs.Trees.{prefix-splits, same_path-itself}
 use Rattle.vfs_model.specs.Consistency.{FoldersStand, covered_mount}
-use Rattle.vfs_model.specs.Lookup.{covering_mount, is_prefix, nearest, rest_of}
-use Rattle.vfs_model.specs.Namespace.{all_mounts, same_path}
+use Rattle.vfs_model.specs.Lookup.{covering_mount, is_prefix, rest_of}
+use Rattle.vfs_model.specs.Namespace.{same_path}
 use Rattle.vfs_model.specs.declared.namespace.Mount.{Mount}
 use Rattle.vfs_model.specs.declared.namespace.Namespace.{Namespace}
 use Rattle.world_laws.proofs.Covering.{IsMount, any-default, covering-is, covers-longest, one-number, prefix-append-both, splits}
 use Rattle.world_laws.proofs.Lists.{true-or-false}
-use Rattle.world_laws.proofs.Passing.{and-first}
 
 pub one-later : (x : Mount) (xs : List Mount) (found : Mount) → IsOneOf xs found → IsOneOf (x ∷ xs) found
 one-later x xs found (place, l, h) = (suc place, omega (arith, l), h)
@@ -47,10 +46,11 @@ covered-one : (n : Namespace) (q : Path) (found : Mount) → FoldersStand n → 
 covered-one n q found f h one = elim (first-or-later n.root _ found one) [
   | inl same ↦ (record { place = 0; within = omega arith; is = same }, λ e. h (sym e ∙ ap (λ m. m.point) (sym same) ∙ f.root.0))
   | inr more ↦
-    let kept = filter-one (λ mount. not (same_path mount.point q)) n.mounts found more in
-    let among = kept.0 in
-    (record { place = suc among.0; within = let l = among.1 in omega (arith, l); is = among.2 },
-    λ e. let no = kept.1 in let yes = ap (λ point. not (same_path point q)) e ∙ ap not (same_path-itself q) in absurd (cc))
+      let kept = filter-one (λ mount. not (same_path mount.point q)) n.mounts found more in
+      let among = kept.0 in (
+        record { place = suc among.0; within = let l = among.1 in omega (arith, l); is = among.2 },
+        λ e. let no = kept.1 in let yes = ap (λ point. not (same_path point q)) e ∙ ap not (same_path-itself q) in absurd (cc),
+      )
 ]
 
 -- a point is not `/`

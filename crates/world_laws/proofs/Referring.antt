@@ -1,17 +1,15 @@
 -- A working directory changes, and references come and go.
-use Rattle.std.proofs.Common.{◌≡◌, ◌≢◌, ℕ, ◌-◌, ◌<◌, ◌≤◌, Bool, true, Option, Some, None, is_some, List, [], length, slice_index_or, slice_set, ◌⊎◌, inl, inr, refl, sym, ap, subst, ◌∙◌}
+use Rattle.std.proofs.Common.{◌≡◌, ◌≢◌, ℕ, ◌-◌, ◌≤◌, true, Option, Some, None, List, [], length, slice_index_or, slice_set, inl, inr, sym, ap, subst, ◌∙◌}
 use Rattle.std.proofs.lemmas.List.{length-set, set_past}
 use Rattle.vfs_base.specs.Path.{Path, printed}
-use Rattle.vfs_base.specs.declared.ids.FileId.{FileId}
-use Rattle.vfs_base.specs.declared.kinds.Kind.{Kind}
-use Rattle.vfs_model.specs.Consistency.{FoldersStand, IsLive, ReferencesLive, is_number}
+use Rattle.vfs_model.specs.Consistency.{IsLive, ReferencesLive, is_number}
 use Rattle.vfs_model.specs.Lookup.{covering_mount, is_folder, node_at}
 use Rattle.vfs_model.specs.Namespace.{with_folder_of}
 use Rattle.vfs_model.specs.declared.namespace.Namespace.{Namespace}
 use Rattle.vfs_model.specs.declared.namespace.Reference.{Reference}
-use Rattle.world_laws.proofs.Beside.{alive-beside, boxes-beside, folders-beside, live-beside, lives-beside}
+use Rattle.world_laws.proofs.Beside.{alive-beside, boxes-beside, folders-beside, live-beside}
 use Rattle.world_laws.proofs.Lists.{below-or-past, same-or-other, same-some, set-here, set-there}
-use Rattle.world_laws.proofs.Standing.{Held, HeldIn, IsUsed, Linked, LinkedIn, NamespaceSizes, Nothing, Only, Stands}
+use Rattle.world_laws.proofs.Standing.{Held, IsUsed, NamespaceSizes, Nothing, Only, Stands}
 
 -- what holds of a new item, and held of the old ones, holds at each place of the list
 pub set-keeps : {X : Type 0} (P : X → Type 0) (xs : List X) (place other : ℕ) (x d : X) → P x → P (slice_index_or xs other d) → P (slice_index_or (slice_set xs place x) other d)

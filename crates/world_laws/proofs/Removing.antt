@@ -1,5 +1,5 @@
 -- A node without children is taken away from a path.
-use Rattle.std.proofs.Common.{◌≡◌, ◌≢◌, ℕ, ◌-◌, ◌<◌, ◌≤◌, Bool, true, false, not, ◌||◌, ◌&&◌, Option, Some, None, is_some, List, [], ◌∷◌, ◌++◌, length, drop, slice_index_or, ◌⊎◌, inl, inr, refl, sym, ap, subst, ◌∙◌, arith}
+use Rattle.std.proofs.Common.{◌≡◌, ◌≢◌, ℕ, ◌<◌, true, false, not, Option, Some, None, List, [], ◌∷◌, ◌++◌, length, drop, slice_index_or, ◌⊎◌, inl, inr, refl, sym, ap, subst, ◌∙◌}
 use Rattle.std.specs.FinMap.Entries.{find as value_at}
 use Rattle.std.specs.List.{list_any}
 use Rattle.vfs_base.specs.Path.{Path, path_cmp}
@@ -7,21 +7,20 @@ use Rattle.vfs_base.specs.declared.ids.FileId.{FileId}
 use Rattle.vfs_base.specs.declared.kinds.Kind.{Kind}
 use Rattle.vfs_base.specs.declared.kinds.NodeKind.{NodeKind}
 use Rattle.vfs_base.specs.declared.kinds.NodeKind.TheVariants as node
-use Rattle.vfs_model.proofs.MovedLaws.{prefix-append}
 use Rattle.vfs_model.proofs.MountsApart.{standing-apart}
 use Rattle.vfs_model.proofs.NodeLaws.{taken-other}
 use Rattle.vfs_model.proofs.Trees.{at-without-here, at-without-other}
-use Rattle.vfs_model.specs.Consistency.{FoldersStand, IsClosedTree, IsLive, covered_mount}
-use Rattle.vfs_model.specs.Lookup.{is_below, is_dir_node, is_folder, is_prefix, node_at, node_in, rest_of, with_tree}
+use Rattle.vfs_model.specs.Consistency.{covered_mount}
+use Rattle.vfs_model.specs.Lookup.{is_below, is_dir_node, is_prefix, node_in, rest_of, with_tree}
 use Rattle.vfs_model.specs.NameSteps.{without_node}
-use Rattle.vfs_model.specs.Namespace.{Tree, folder_of, same_path, tree_of}
+use Rattle.vfs_model.specs.Namespace.{folder_of, same_path, tree_of}
 use Rattle.vfs_model.specs.declared.namespace.Mount.{Mount}
 use Rattle.vfs_model.specs.declared.namespace.Namespace.{Namespace}
 use Rattle.world_laws.proofs.Growing.{MayStand, tree-other, tree-own, tree-stands}
 use Rattle.world_laws.proofs.Lists.{same-or-other}
 use Rattle.world_laws.proofs.Nodes.{covering-number, number_at, prefix-itself, tree_at}
 use Rattle.world_laws.proofs.Points.{point-apart}
-use Rattle.world_laws.proofs.Standing.{IsUsed, Linked, LinkedIn, Nothing, Only, Stands}
+use Rattle.world_laws.proofs.Standing.{IsUsed, Linked, Nothing, Only, Stands}
 use Rattle.world_laws.proofs.TreeParts.{filter-none, same-or-other-path, without, without-closed}
 
 -- a node below its mount's point, without children, and no session's working directory
@@ -36,8 +35,8 @@ module _ (n : Namespace) (p : Path) (s : Stands Nothing n) (may : MayGo n p) whe
       (q ≢ rest_of n p) × (value_at path_cmp q (tree_at n p) ≡ Some (node.File id kind))
   left-file q id kind h = elim (same-or-other-path q (rest_of n p)) [
     | inl e ↦
-      let none : value_at path_cmp q (without (rest_of n p) (tree_at n p)) ≡ None = ap (λ r. value_at path_cmp r (without (rest_of n p) (tree_at n p))) e ∙ at-without-here (rest_of n p) (tree_at n p) in
-      absurd (cc)
+        let none : value_at path_cmp q (without (rest_of n p) (tree_at n p)) ≡ None = ap (λ r. value_at path_cmp r (without (rest_of n p) (tree_at n p))) e ∙ at-without-here (rest_of n p) (tree_at n p) in
+        absurd (cc)
     | inr e ↦ (e, sym (at-without-other (rest_of n p) q (tree_at n p) e) ∙ h)
   ]
 
@@ -120,6 +119,7 @@ module _ (n : Namespace) (p : Path) (s : Stands Nothing n) (may : MayGo n p) whe
           let same : linked.id ≡ id = same-file linked.id id linked.kind kind
           (sym linked.there ∙ ap (λ k. value_at path_cmp linked.path (tree_of n k)) e ∙ ap (λ r. value_at path_cmp r (tree_at n p)) x ∙ there) in
           inr (inr (sym linked.is ∙ ap (λ file. file.row) same))
+
       by_place : (linked.number ≡ number_at n p) ⊎ (linked.number ≢ number_at n p) → IsUsed (Only id.row) (without_node n p) row
       by_place (inl e) = by_path e (same-or-other-path linked.path (rest_of n p))
       by_place (inr e) = inl (left-linked row linked (λ x. absurd (e x)))

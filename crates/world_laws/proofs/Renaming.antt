@@ -1,6 +1,5 @@
 -- A file, or a folder with all below it, moves within its mount.
-use Rattle.std.proofs.Common.{◌≡◌, ◌≢◌, ℕ, suc, ◌+◌, ◌-◌, ◌<◌, ◌≤◌, Bool, true, false, not, ◌||◌, ◌&&◌, ◌==◌, T, Option, Some, None, is_some, List, [], ◌∷◌, ◌++◌, length, drop, slice_index_or, ◌⊎◌, inl, inr, refl, sym, ap, subst, ◌∙◌, arith, length-append, append_assoc}
-use Rattle.std.proofs.lemmas.List.{append_cancel_left, append-nil}
+use Rattle.std.proofs.Common.{◌≡◌, ◌≢◌, ℕ, suc, ◌<◌, true, false, Option, Some, None, [], ◌∷◌, ◌++◌, length, drop, slice_index_or, ◌⊎◌, inl, inr, refl, sym, ap, subst, ◌∙◌, arith}
 use Rattle.std.specs.FinMap.Entries.{find as value_at}
 use Rattle.std.specs.List.{list_any}
 use Rattle.vfs_base.specs.Path.{Path, path_cmp}
@@ -9,12 +8,12 @@ use Rattle.vfs_base.specs.declared.kinds.Kind.{Kind}
 use Rattle.vfs_base.specs.declared.kinds.NodeKind.{NodeKind}
 use Rattle.vfs_base.specs.declared.kinds.NodeKind.TheVariants as node
 use Rattle.vfs_model.proofs.MountsApart.{standing-apart}
-use Rattle.vfs_model.proofs.MovedLaws.{moved-away, moved-beside, none-below, prefix-append}
-use Rattle.vfs_model.proofs.RenameLaws.{renamed-at, renamed-away, renamed-beside, rest-below, covering-below}
+use Rattle.vfs_model.proofs.MovedLaws.{moved-beside, none-below, prefix-append}
+use Rattle.vfs_model.proofs.RenameLaws.{renamed-beside}
 use Rattle.vfs_model.proofs.Trees.{prefix-splits}
-use Rattle.vfs_model.specs.Consistency.{FoldersStand, IsClosedTree, IsLive, covered_mount}
+use Rattle.vfs_model.specs.Consistency.{covered_mount}
 use Rattle.vfs_model.specs.Laws.{HasNoPoint}
-use Rattle.vfs_model.specs.Lookup.{covering_mount, has_nodes, is_below, is_dir_node, is_folder, is_prefix, node_at, node_in, rest_of, walk_refusal, with_tree}
+use Rattle.vfs_model.specs.Lookup.{covering_mount, has_nodes, is_below, is_dir_node, is_folder, is_prefix, node_in, rest_of, with_tree}
 use Rattle.vfs_model.specs.Namespace.{Tree, all_mounts, folder_of, tree_of}
 use Rattle.vfs_model.specs.RenameStep.{moved, with_moved}
 use Rattle.vfs_model.specs.declared.namespace.Mount.{Mount}
@@ -27,9 +26,9 @@ use Rattle.world_laws.proofs.Passing.{and-first}
 use Rattle.vfs_model.proofs.MountLaws.{prefixes-nest}
 use Rattle.world_laws.proofs.Nodes.{covering-number, number_at, prefix-itself, tree_at}
 use Rattle.world_laws.proofs.Points.{point-apart, point-covers}
-use Rattle.world_laws.proofs.Standing.{IsUsed, Linked, LinkedIn, Nothing, Only, Stands}
-use Rattle.world_laws.proofs.TreeMoves.{MayMove, Source, t-true, at-new, moved-closed, new-apart, one-source, source}
-use Rattle.world_laws.proofs.TreeParts.{at-node, same-or-other-path}
+use Rattle.world_laws.proofs.Standing.{IsUsed, Linked, Nothing, Only, Stands}
+use Rattle.world_laws.proofs.TreeMoves.{MayMove, Source, t-true, at-new, moved-closed, one-source, source}
+use Rattle.world_laws.proofs.TreeParts.{same-or-other-path}
 
 -- a move that nothing refuses, in the mount of both paths
 pub record MayRename (n : Namespace) (old new : Path) : Type 0 where
@@ -66,9 +65,9 @@ module _ (n : Namespace) (old new : Path) (s : Stands Nothing n) (may : MayRenam
   rest-apart front m r e h = elim (true-or-false (is_prefix (rest_of n front) r)) [
     | inr k ↦ k
     | inl k ↦
-      let whole : front ≡ m.point ++ rest_of n front = splits n front s.folders ∙ ap (λ x. x.point ++ rest_of n front) e in
-      let yes : is_prefix front (m.point ++ r) ≡ true = subst (λ x. is_prefix x (m.point ++ r) ≡ true) (sym whole) (prefix-append-both m.point (rest_of n front) r k) in
-      absurd (cc)
+        let whole : front ≡ m.point ++ rest_of n front = splits n front s.folders ∙ ap (λ x. x.point ++ rest_of n front) e in
+        let yes : is_prefix front (m.point ++ r) ≡ true = subst (λ x. is_prefix x (m.point ++ r) ≡ true) (sym whole) (prefix-append-both m.point (rest_of n front) r k) in
+        absurd (cc)
   ]
 
   -- no node of the moved tree lies below a path at which none moved, where none lay before
@@ -82,16 +81,16 @@ module _ (n : Namespace) (old new : Path) (s : Stands Nothing n) (may : MayRenam
       found : AnyKey (is_below rest) (moved (rest_of n old) (rest_of n new) (tree_at n old)) → ⊥
       found at = elim (source (rest_of n old) (rest_of n new) (tree_at n old) may.move at.path at.node at.there).is [
         | inl x ↦
-          let below : is_prefix rest (rest_of n new ++ x.0) ≡ true = subst (λ y. is_prefix rest y ≡ true) x.1 (and-first (is_prefix rest at.path) _ at.holds) in
-          elim (below-or-past (length (rest_of n new)) (length rest)) [
-            | inl l ↦ let yes = prefixes-nest (rest_of n new) rest (rest_of n new ++ x.0) (prefix-append (rest_of n new) x.0) below (omega (arith, l)) in absurd (cc)
-            | inr l ↦ let yes = prefixes-nest rest (rest_of n new) (rest_of n new ++ x.0) below (prefix-append (rest_of n new) x.0) l in absurd (cc)
-          ]
+            let below : is_prefix rest (rest_of n new ++ x.0) ≡ true = subst (λ y. is_prefix rest y ≡ true) x.1 (and-first (is_prefix rest at.path) _ at.holds) in
+            elim (below-or-past (length (rest_of n new)) (length rest)) [
+              | inl l ↦ let yes = prefixes-nest (rest_of n new) rest (rest_of n new ++ x.0) (prefix-append (rest_of n new) x.0) below (omega (arith, l)) in absurd (cc)
+              | inr l ↦ let yes = prefixes-nest rest (rest_of n new) (rest_of n new ++ x.0) below (prefix-append (rest_of n new) x.0) l in absurd (cc)
+            ]
         | inr x ↦
-          let there = (source (rest_of n old) (rest_of n new) (tree_at n old) may.move at.path at.node at.there).there in
-          let gone : value_at path_cmp at.path (tree_at n old) ≡ None = none-below rest at.path (tree_at n old) none at.holds in
-          let same = ap (λ y. value_at path_cmp y (tree_at n old)) x.2 in
-          absurd (cc)
+            let there = (source (rest_of n old) (rest_of n new) (tree_at n old) may.move at.path at.node at.there).there in
+            let gone : value_at path_cmp at.path (tree_at n old) ≡ None = none-below rest at.path (tree_at n old) none at.holds in
+            let same = ap (λ y. value_at path_cmp y (tree_at n old)) x.2 in
+            absurd (cc)
       ]
 
   moved-point : (place : ℕ) (d : Mount) → place < length n.mounts →
@@ -150,8 +149,10 @@ module _ (n : Namespace) (old new : Path) (s : Stands Nothing n) (may : MayRenam
       own : (p : Path) (found : NodeKind) → value_at path_cmp p (moved (rest_of n old) (rest_of n new) (tree_at n old)) ≡ Some found →
           value_at path_cmp p (tree_of (with_tree n (number_at n old) (moved (rest_of n old) (rest_of n new) (tree_at n old))) (number_at n old)) ≡ Some found
       own p found h = ap (value_at path_cmp p) (tree-own n (number_at n old) (moved (rest_of n old) (rest_of n new) (tree_at n old)) s.sizes.trees (covering-number n old s.folders).0) ∙ h
+
       stays : (p : Path) → value_at path_cmp p (moved (rest_of n old) (rest_of n new) (tree_at n old)) ≡ Some (node.File linked.id linked.kind) → Linked (with_moved n old new) row
       stays p h = record { number = number_at n old; path = p; id = linked.id; kind = linked.kind; there = own p (node.File linked.id linked.kind) h; is = linked.is }
+
       inside : value_at path_cmp linked.path (tree_at n old) ≡ Some (node.File linked.id linked.kind) → linked.path ≢ rest_of n new → Linked (with_moved n old new) row
       inside h apart = elim (true-or-false (is_prefix (rest_of n old) linked.path)) [
         | inl x ↦ stays (rest_of n new ++ drop (length (rest_of n old)) linked.path)
@@ -160,17 +161,24 @@ module _ (n : Namespace) (old new : Path) (s : Stands Nothing n) (may : MayRenam
         | inr x ↦ elim (true-or-false (is_prefix (rest_of n new) linked.path)) [
           | inr y ↦ stays linked.path (moved-beside (rest_of n old) (rest_of n new) (tree_at n old) linked.path y x ∙ h)
           | inl y ↦
-            let longer = prefix-length (rest_of n new) linked.path y in
-            let differ : length (rest_of n new) ≢ length linked.path = λ e. apart (sym (same-prefix (rest_of n new) linked.path linked.path y (prefix-itself linked.path) e)) in
-            let below : is_below (rest_of n new) linked.path ≡ true = below-prefix (rest_of n new) linked.path y (omega (arith, longer, differ)) in
-            let none : value_at path_cmp linked.path (tree_at n old) ≡ None = none-below (rest_of n new) linked.path (tree_at n old) may.move.clear below in
-            absurd (cc)
+              let longer = prefix-length (rest_of n new) linked.path y in
+              let differ : length (rest_of n new) ≢ length linked.path = λ e. apart (sym (same-prefix (rest_of n new) linked.path linked.path y (prefix-itself linked.path) e)) in
+              let below : is_below (rest_of n new) linked.path ≡ true = below-prefix (rest_of n new) linked.path y (omega (arith, longer, differ)) in
+              let none : value_at path_cmp linked.path (tree_at n old) ≡ None = none-below (rest_of n new) linked.path (tree_at n old) may.move.clear below in
+              absurd (cc)
         ]
       ]
+
       at : (linked.number ≡ number_at n old) ⊎ (linked.number ≢ number_at n old) → Linked (with_moved n old new) row
       at (inl e) = inside (sym (ap (λ k. value_at path_cmp linked.path (tree_of n k)) e) ∙ linked.there) (other e)
-      at (inr e) = record { number = linked.number; path = linked.path; id = linked.id; kind = linked.kind; is = linked.is;
-        there = ap (value_at path_cmp linked.path) (tree-other n (number_at n old) linked.number (moved (rest_of n old) (rest_of n new) (tree_at n old)) e) ∙ linked.there }
+      at (inr e) = record {
+        number = linked.number;
+        path = linked.path;
+        id = linked.id;
+        kind = linked.kind;
+        is = linked.is;
+        there = ap (value_at path_cmp linked.path) (tree-other n (number_at n old) linked.number (moved (rest_of n old) (rest_of n new) (tree_at n old)) e) ∙ linked.there;
+      }
 
   plain-used : (row : ℕ) → ((id : FileId) (kind : Kind) → value_at path_cmp (rest_of n new) (tree_at n old) ≢ Some (node.File id kind)) → IsUsed Nothing n row → IsUsed Nothing (with_moved n old new) row
   unfolding with_moved

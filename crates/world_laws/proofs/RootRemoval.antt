@@ -1,17 +1,17 @@
 -- At the end `/` loses its nodes, and all mounts are gone.
-use Rattle.std.proofs.Common.{◌≡◌, ◌≢◌, ℕ, zero, suc, ◌+◌, ◌-◌, ◌*◌, ◌<◌, ◌≤◌, Bool, true, false, cond, not, ◌||◌, ◌&&◌, ◌==◌, if◌then◌else◌, Option, Some, None, is_some, IsSomeAnd, List, [], ◌∷◌, ◌++◌, length, drop, fold, slice_index_or, slice_set, ◌⊎◌, inl, inr, refl, sym, ap, subst, ◌∙◌, arith}
+use Rattle.std.proofs.Common.{◌≡◌, ℕ, ◌-◌, ◌<◌, Bool, true, false, ◌||◌, ◌==◌, if◌then◌else◌, Option, Some, None, is_some, IsSomeAnd, List, [], length, drop, fold, slice_index_or, ◌⊎◌, inl, inr, refl, sym, ap, subst, ◌∙◌, arith}
 use Rattle.std.proofs.lemmas.List.{length-set}
 use Rattle.std.specs.FinMap.Entries.{find as value_at}
 use Rattle.vfs_base.specs.Path.{Path, path_cmp}
 use Rattle.vfs_base.specs.declared.kinds.FsType.TheVariants as fs
 use Rattle.vfs_base.specs.declared.kinds.NodeKind.{NodeKind}
 use Rattle.vfs_base.specs.declared.kinds.NodeKind.TheVariants as node
-use Rattle.vfs_model.specs.Boxes.{is_backed_by, lies_on_cell, one_if, fits_kind}
-use Rattle.vfs_model.specs.Consistency.{FoldersStand, IsClosedTree, fits_mount, is_number, mount_numbered, same_kind}
+use Rattle.vfs_model.specs.Boxes.{is_backed_by, lies_on_cell, fits_kind}
+use Rattle.vfs_model.specs.Consistency.{FoldersStand, IsClosedTree, fits_mount, mount_numbered, same_kind}
 use Rattle.vfs_model.specs.FileLife.{Rows, end_of_unmounted, free_row}
 use Rattle.vfs_model.specs.Homes.{cell_capacity, change_row}
 use Rattle.vfs_model.specs.Lookup.{covering_mount, is_dir_node, is_folder, node_at, node_in, with_tree}
-use Rattle.vfs_model.specs.Namespace.{all_mounts, folder_of, life_at, tree_of}
+use Rattle.vfs_model.specs.Namespace.{folder_of, life_at, tree_of}
 use Rattle.vfs_model.specs.OpenStep.{kind_of}
 use Rattle.vfs_model.specs.UmountSteps.{empty_mount, is_of_mount, keep_names, rows_of_mount}
 use Rattle.vfs_model.specs.declared.namespace.LiveFile.{LiveFile}
@@ -21,12 +21,11 @@ use Rattle.vfs_model.specs.declared.namespace.RowChange.{RowChange}
 use Rattle.vfs_model.specs.declared.world.World.{World}
 use Rattle.world_laws.proofs.Agreeing.{Agrees, agrees-beside}
 use Rattle.world_laws.proofs.Emptying.{Empty, InRows, empty-all, twice}
-use Rattle.world_laws.proofs.Leaving.{in-left, rows-in, rows-left}
+use Rattle.world_laws.proofs.Leaving.{rows-in, rows-left}
 use Rattle.world_laws.proofs.Lists.{number-itself, other-number, same-number, same-or-other, set-here, set-there, some-within, true-or-false}
 use Rattle.world_laws.proofs.MountRemoval.{emptied-stands}
 use Rattle.world_laws.proofs.Passing.{and-first}
 use Rattle.world_laws.proofs.Standing.{Held, Linked, Nothing, Stands}
-use Rattle.world_laws.proofs.Taking.{set-at}
 use Rattle.world_laws.proofs.Vacating.{cell-kind-is, no-rows, on-cell}
 
 -- no reference is left, and each session is in `/`
@@ -73,10 +72,10 @@ module _ (m : Namespace) (s : Stands Nothing (lone m)) (rest : AtRest (lone m)) 
       by row (Some life) e = elim (true-or-false (lies_on_cell volume cell life.backing)) [
         | inr h ↦ ap (is_backed_by (lies_on_cell volume cell)) e ∙ h
         | inl h ↦
-          let is : m.root.fs ≡ fs.Cell = cell-kind-is life volume cell m.root.fs (on-cell volume cell life.backing h) (sym (ap fits_kind e) ∙ s.boxes.kinds row)
-          (and-first (same_kind life.kind (kind_of m.root.fs)) _ (own-mount row life e).1) in
-          let not = s.folders.root.2 in
-          absurd (cc)
+            let is : m.root.fs ≡ fs.Cell = cell-kind-is life volume cell m.root.fs (on-cell volume cell life.backing h) (sym (ap fits_kind e) ∙ s.boxes.kinds row)
+            (and-first (same_kind life.kind (kind_of m.root.fs)) _ (own-mount row life e).1) in
+            let not = s.folders.root.2 in
+            absurd (cc)
       ]
 
   bare-folder : (p : Path) → p ≡ [] → is_folder (bare m) p ≡ true
@@ -137,8 +136,10 @@ module _ (m : Namespace) (s : Stands Nothing (lone m)) (rest : AtRest (lone m)) 
     where
       both : {X : Type 0} (found : Option X) (x : X) → found ≡ None → found ≡ Some x → ⊥
       both found x h k = absurd (cc)
+
       empty-closed : IsClosedTree is_dir_node []
       empty-closed = record { sorted = tt; rootless = refl; parents = λ front name h. absurd (cc); bounded = omega arith }
+
       used : (row : ℕ) → 0 < row → (found : Option LiveFile) → life_at m row ≡ found → is_some (life_at m row) ≡ true → Linked (bare m) row ⊎ (Held (bare m) row ⊎ InRows (rows_of_mount m m.root.number) row)
       used row l None e h = let none = ap is_some e in absurd (cc)
       used row l (Some life) e h = inr (inr (bare-row row life l e))
@@ -163,4 +164,4 @@ root-ended n root changes e r s rest =
     let is : n ≡ lone n = ap (λ mounts. record n { mounts = mounts }) e in
     subst (λ x. Ended n changes (empty_mount (record { next = n; changes = changes }) x)) (sym r)
     (subst (λ x. Ended x changes (empty_mount (record { next = x; changes = changes }) n.root)) (sym is)
-      (lone-ended n (subst (Stands Nothing) is s) (subst AtRest is rest) changes))
+    (lone-ended n (subst (Stands Nothing) is s) (subst AtRest is rest) changes))

@@ -1,5 +1,5 @@
 -- The end unmounts everything, and keeps what holds.
-use Rattle.std.proofs.Common.{◌≡◌, ◌≢◌, ℕ, zero, suc, ◌+◌, ◌-◌, ◌*◌, ◌<◌, ◌≤◌, Bool, true, false, not, ◌||◌, ◌&&◌, ◌==◌, if◌then◌else◌, Option, Some, None, is_none, List, [], ◌∷◌, ◌++◌, length, filter, fold, reverse, slice_index_or, ◌⊎◌, inl, inr, refl, sym, ap, subst, ◌∙◌, arith}
+use Rattle.std.proofs.Common.{◌≡◌, ◌≢◌, ℕ, zero, suc, ◌+◌, ◌-◌, ◌<◌, Bool, true, false, not, if◌then◌else◌, Option, Some, None, is_none, List, [], ◌∷◌, ◌++◌, length, filter, fold, reverse, slice_index_or, inl, inr, refl, sym, ap, ◌∙◌, arith}
 use Rattle.std.proofs.lemmas.List.{get_or_past, length-append, reverse-append, reverse-reverse}
 use Rattle.std.proofs.lemmas.Bool.{ltb-true}
 use Rattle.std.proofs.lemmas.List.Elements.{filter-append}
@@ -12,20 +12,17 @@ use Rattle.vfs_base.specs.declared.entry.Mark.{Mark}
 use Rattle.vfs_base.specs.declared.entry.Mark.TheVariants as mark
 use Rattle.vfs_model.specs.Asking.{is_at_rest}
 use Rattle.vfs_model.specs.FileLife.{Rows}
-use Rattle.vfs_model.specs.Homes.{cell_capacity, change_row}
+use Rattle.vfs_model.specs.Homes.{change_row}
 use Rattle.vfs_model.specs.Lookup.{covering_mount, has_mount_below, is_below, is_prefix, node_at}
 use Rattle.vfs_model.specs.Namespace.{all_mounts, folder_of, same_path}
 use Rattle.vfs_model.specs.NamespaceStep.{shutdown_step}
-use Rattle.vfs_model.specs.UmountSteps.{empty_mount, refers_to_mount, remove_all, remove_mount}
+use Rattle.vfs_model.specs.UmountSteps.{refers_to_mount, remove_all, remove_mount}
 use Rattle.vfs_model.specs.declared.namespace.Mount.{Mount}
 use Rattle.vfs_model.specs.declared.namespace.Namespace.{Namespace}
-use Rattle.vfs_model.specs.declared.namespace.Reference.{Reference}
 use Rattle.vfs_model.specs.declared.namespace.RowChange.{RowChange}
-use Rattle.vfs_model.specs.declared.world.World.{World}
-use Rattle.world_laws.proofs.Agreeing.{Agrees, agrees-beside}
-use Rattle.world_laws.proofs.Covering.{IsMount}
+use Rattle.world_laws.proofs.Agreeing.{agrees-beside}
 use Rattle.world_laws.proofs.Keeping.{Keeps, same-kept}
-use Rattle.world_laws.proofs.Lists.{any-place, below-or-past, number-itself, other-number, same-or-other, true-or-false}
+use Rattle.world_laws.proofs.Lists.{any-place, below-or-past, number-itself, other-number, true-or-false}
 use Rattle.world_laws.proofs.MountRemoval.{Removed, removal}
 use Rattle.world_laws.proofs.Passing.{and-first, and-second}
 use Rattle.world_laws.proofs.RootRemoval.{AtRest, Ended, root-ended}
@@ -71,22 +68,22 @@ module _ (m : Namespace) (front : List Mount) (last : Mount) (s : Stands Nothing
   none-below = elim (true-or-false (list_any (λ x. is_below last.point x.point) (all_mounts m))) [
     | inr h ↦ h
     | inl h ↦
-      let at = any-place (λ x. is_below last.point x.point) (all_mounts m) last h in
-      elim (below-or-past at.place (suc (length front))) [
-        | inl l ↦
-          let n = long in
-          let none = s.folders.nested at.place (suc (length front)) last l (omega (arith, n)) in
-          let same = ap (λ x. is_below x.point (slice_index_or (all_mounts m) at.place last).point) (last-at last) in
-          let yes = at.holds in
-          absurd (cc)
-        | inr l ↦
-          let n = long in
-          let w = at.within in
-          let is : at.place ≡ suc (length front) = omega (arith, l, n, w) in
-          let own : slice_index_or (all_mounts m) at.place last ≡ last = ap (λ k. slice_index_or (all_mounts m) k last) is ∙ last-at last in
-          let below : is_below last.point last.point ≡ true = ap (λ x. is_below last.point x.point) (sym own) ∙ at.holds in
-          absurd (not-below last.point below)
-      ]
+        let at = any-place (λ x. is_below last.point x.point) (all_mounts m) last h in
+        elim (below-or-past at.place (suc (length front))) [
+          | inl l ↦
+              let n = long in
+              let none = s.folders.nested at.place (suc (length front)) last l (omega (arith, n)) in
+              let same = ap (λ x. is_below x.point (slice_index_or (all_mounts m) at.place last).point) (last-at last) in
+              let yes = at.holds in
+              absurd (cc)
+          | inr l ↦
+              let n = long in
+              let w = at.within in
+              let is : at.place ≡ suc (length front) = omega (arith, l, n, w) in
+              let own : slice_index_or (all_mounts m) at.place last ≡ last = ap (λ k. slice_index_or (all_mounts m) k last) is ∙ last-at last in
+              let below : is_below last.point last.point ≡ true = ap (λ x. is_below last.point x.point) (sym own) ∙ at.holds in
+              absurd (not-below last.point below)
+        ]
   ]
     where
       not-below : (p : Path) → is_below p p ≡ true → ⊥
@@ -96,10 +93,10 @@ module _ (m : Namespace) (front : List Mount) (last : Mount) (s : Stands Nothing
   unreferred = elim (true-or-false (list_any (refers_to_mount last.number) m.references)) [
     | inr h ↦ h
     | inl h ↦
-      let at = any-place (refers_to_mount last.number) m.references None h in
-      let none = ap (refers_to_mount last.number) (rest.unheld at.place) in
-      let yes = at.holds in
-      absurd (cc)
+        let at = any-place (refers_to_mount last.number) m.references None h in
+        let none = ap (refers_to_mount last.number) (rest.unheld at.place) in
+        let yes = at.holds in
+        absurd (cc)
   ]
 
   root-other : m.root.number ≢ last.number
@@ -118,7 +115,7 @@ module _ (m : Namespace) (front : List Mount) (last : Mount) (s : Stands Nothing
   front-stays =
       ap (filter (stays last.number)) e ∙ filter-append (stays last.number) front (last ∷ [])
       ∙ ap (λ ms. ms ++ filter (stays last.number) (last ∷ [])) (keep-all (stays last.number) front
-        (λ place d l. ap not (other-number _ last.number (λ h. earlier (suc place) d (omega (arith, l)) (ap (λ x. x.number) (ap (λ ms. slice_index_or ms (suc place) d) all-are ∙ at-front front (last ∷ []) place d l) ∙ h)))))
+      (λ place d l. ap not (other-number _ last.number (λ h. earlier (suc place) d (omega (arith, l)) (ap (λ x. x.number) (ap (λ ms. slice_index_or ms (suc place) d) all-are ∙ at-front front (last ∷ []) place d l) ∙ h)))))
       ∙ ap (λ b. front ++ (if not b then last ∷ [] else [])) (number-itself last.number) ∙ append-none front
     where
       append-none : (xs : List Mount) → xs ++ [] ≡ xs

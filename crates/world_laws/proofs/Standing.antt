@@ -1,14 +1,13 @@
 -- What holds of the namespace between steps, and within one: then some rows may be live that nothing names.
-use Rattle.std.proofs.Common.{◌≡◌, ℕ, ◌<◌, ◌≤◌, ◌==◌, Bool, true, false, ◌||◌, Option, Some, None, is_some, List, [], ◌∷◌, length, slice_index_or, ◌⊎◌, inl, inr, refl, sym, ap, subst, ◌∙◌, arith}
+use Rattle.std.proofs.Common.{◌≡◌, ℕ, ◌<◌, ◌≤◌, ◌==◌, true, false, ◌||◌, Option, Some, None, is_some, List, [], length, slice_index_or, ◌⊎◌, inl, inr, refl, sym, ap, subst, ◌∙◌}
 use Rattle.std.specs.FinMap.Entries.{find as value_at}
-use Rattle.std.specs.List.{list_any}
-use Rattle.vfs_base.specs.Path.{Path, path_cmp, printed}
+use Rattle.vfs_base.specs.Path.{Path, path_cmp}
 use Rattle.vfs_base.specs.declared.ids.FileId.{FileId}
 use Rattle.vfs_base.specs.declared.kinds.Kind.{Kind}
 use Rattle.vfs_base.specs.declared.kinds.NodeKind.{NodeKind}
 use Rattle.vfs_base.specs.declared.kinds.NodeKind.TheVariants as node
-use Rattle.vfs_model.specs.Boxes.{BoxesPlaced, CellsFit, HasSizes, IsConsistent, RomsClosed}
-use Rattle.vfs_model.specs.Consistency.{FoldersStand, IsClosedTree, IsLive, LivesFit, ReferencesLive, RowsUsed, agrees, is_number}
+use Rattle.vfs_model.specs.Boxes.{BoxesPlaced, CellsFit, IsConsistent, RomsClosed}
+use Rattle.vfs_model.specs.Consistency.{FoldersStand, IsClosedTree, LivesFit, ReferencesLive, agrees}
 use Rattle.vfs_model.specs.FileLife.{has_row, is_file_of_row, is_held, is_linked, refers_to}
 use Rattle.vfs_model.specs.Homes.{file_at}
 use Rattle.vfs_model.specs.Lookup.{is_dir_node}

@@ -1,13 +1,11 @@
 -- Every step of the namespace keeps what holds.
-use Rattle.std.proofs.Common.{◌≡◌, ◌≢◌, ℕ, ◌-◌, ◌*◌, ◌<◌, ◌≤◌, Bool, true, false, not, ◌&&◌, ◌==◌, List, [], ◌∷◌, fold, length, map, slice_index_or, slice_set, ◌⊎◌, inl, inr, Result, Ok, Err, if◌then◌else◌, refl, sym, ap, subst, ◌∙◌, arith}
+use Rattle.std.proofs.Common.{◌≡◌, ℕ, ◌<◌, true, false, ◌⊎◌, inl, inr, Result, Ok, Err}
 use Rattle.vfs_base.specs.declared.entry.Mark.{Mark}
 use Rattle.vfs_base.specs.declared.entry.Mark.TheVariants as mark
 use Rattle.vfs_base.specs.declared.errno.Errno.{Errno}
-use Rattle.vfs_base.specs.declared.errno.Errno.TheVariants as errno
 use Rattle.vfs_base.specs.declared.step.Step.{Step}
 use Rattle.vfs_base.specs.declared.step.Step.TheVariants as step
 use Rattle.vfs_model.specs.Asking.{is_at_rest}
-use Rattle.vfs_model.specs.Namespace.{folder_of}
 use Rattle.vfs_model.specs.NamespaceOutcome.{NamespaceOutcome, settled}
 use Rattle.vfs_model.specs.NamespaceStep.{is_shutdown, namespace_answer, namespace_step, under_mark}
 use Rattle.vfs_model.specs.declared.namespace.Namespace.{Namespace}

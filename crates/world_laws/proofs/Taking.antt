@@ -1,5 +1,5 @@
 -- What a live file lies on: cells and devices, taken and given back.
-use Rattle.std.proofs.Common.{◌≡◌, ◌≢◌, ℕ, zero, suc, ◌+◌, ◌-◌, ◌<◌, ◌≤◌, ◌==◌, Bool, true, false, ◌&&◌, Option, Some, None, List, [], ◌∷◌, length, slice_index_or, slice_set, ◌⊎◌, inl, inr, refl, sym, ap, subst, ◌∙◌, arith, if◌then◌else◌}
+use Rattle.std.proofs.Common.{◌≡◌, ◌≢◌, ℕ, ◌+◌, ◌-◌, ◌<◌, Bool, true, false, Option, None, List, [], length, slice_index_or, slice_set, ◌⊎◌, inl, inr, refl, sym, ap, subst, ◌∙◌}
 use Rattle.std.proofs.lemmas.List.{length-set, set_past}
 use Rattle.std.proofs.lemmas.List.Folds.{position_or_len-set}
 use Rattle.std.proofs.lemmas.List.Sums.{sum_by-set}
@@ -7,18 +7,13 @@ use Rattle.std.specs.Prelude.{count_by}
 use Rattle.vfs_model.specs.Boxes.{BoxesPlaced, cell_files, fits_kind, is_backed_by, is_kept_dir, is_kept_on, lies_on_cell, lies_on_device, one_if}
 use Rattle.vfs_model.specs.Consistency.{IsClosedTree}
 use Rattle.vfs_model.specs.Content.{is_mounted, same_type}
-use Rattle.vfs_model.specs.FileLife.{backing_of, no_device, no_volume, volume_at, volume_named, with_cell, with_device, with_spare_cell}
+use Rattle.vfs_model.specs.FileLife.{no_device, no_volume, volume_at, volume_named, with_cell, with_device, with_spare_cell}
 use Rattle.vfs_model.specs.Namespace.{all_mounts, life_at, same_bytes}
 use Rattle.vfs_base.specs.declared.kinds.FsType.TheVariants as fs
-use Rattle.vfs_model.specs.declared.namespace.Backing.{Backing}
-use Rattle.vfs_model.specs.declared.namespace.Backing.TheVariants as backing
-use Rattle.vfs_model.specs.declared.namespace.DeviceState.{DeviceState}
 use Rattle.vfs_model.specs.declared.namespace.LiveFile.{LiveFile}
 use Rattle.vfs_model.specs.declared.namespace.Mount.{Mount}
 use Rattle.vfs_model.specs.declared.namespace.Namespace.{Namespace}
-use Rattle.vfs_model.specs.declared.namespace.VolumeState.{VolumeState}
-use Rattle.world_laws.proofs.Lists.{below-or-past, number-itself, other-number, same-or-other, set-here, set-there}
-use Rattle.world_laws.proofs.Passing.{and-first, and-second}
+use Rattle.world_laws.proofs.Lists.{below-or-past, same-or-other, set-here, set-there}
 
 -- what holds of a new item at its place, and held of the old ones, holds at each place of the list
 pub set-at : {X : Type 0} (P : X → Type 0) (xs : List X) (place other : ℕ) (x d : X) → (other ≡ place → P x) → P (slice_index_or xs other d) → P (slice_index_or (slice_set xs place x) other d)

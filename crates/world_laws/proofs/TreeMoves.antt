@@ -1,24 +1,22 @@
 -- One tree by itself: a node with all below it moves.
-use Rattle.std.proofs.Common.{◌≡◌, ◌≢◌, ℕ, suc, ◌+◌, ◌<◌, ◌≤◌, Bool, true, false, cond, not, ◌||◌, ◌&&◌, T, Option, Some, None, is_some, List, [], ◌∷◌, ◌++◌, length, take, drop, filter, map, fold, ◌⊎◌, inl, inr, refl, sym, ap, subst, ◌∙◌, arith, length-append, append_assoc}
-use Rattle.std.proofs.lemmas.Float.{T_from_true}
+use Rattle.std.proofs.Common.{◌≡◌, ◌≢◌, ℕ, suc, ◌+◌, ◌<◌, ◌≤◌, Bool, true, false, cond, not, ◌||◌, ◌&&◌, T, Some, is_some, List, [], ◌∷◌, ◌++◌, length, drop, filter, map, fold, ◌⊎◌, inl, inr, refl, sym, ap, subst, ◌∙◌, arith, length-append, append_assoc}
 use Rattle.std.proofs.lemmas.Bool.{lt-ltb}
 use Rattle.std.proofs.lemmas.List.{append_cancel_left, append-nil}
 use Rattle.std.specs.Prelude.{nat_lt}
-use Rattle.std.specs.FinMap.Entries.{find as value_at, is_sorted, is_sorted-put, is_sorted-where_key, length-put, put}
+use Rattle.std.specs.FinMap.Entries.{find as value_at, is_sorted, is_sorted-put, is_sorted-where_key, length-put}
 use Rattle.std.specs.List.{list_any}
 use Rattle.vfs_base.specs.Path.{Path, path_cmp}
 use Rattle.vfs_base.specs.PathLaws.{path_cmp_total}
 use Rattle.vfs_base.specs.declared.kinds.NodeKind.{NodeKind}
-use Rattle.vfs_base.specs.declared.kinds.NodeKind.TheVariants as node
 use Rattle.vfs_model.proofs.MovedLaws.{moved-at, moved-away, moved-beside, none-below, prefix-append}
 use Rattle.vfs_model.proofs.Trees.{prefix-splits, same_path-other}
 use Rattle.vfs_model.specs.Consistency.{IsClosedTree}
 use Rattle.vfs_model.specs.Lookup.{is_below, is_dir_node, is_prefix, node_in}
 use Rattle.vfs_model.specs.Namespace.{Tree, same_path}
 use Rattle.vfs_model.specs.RenameStep.{carried, left_behind, moved, put_entry}
-use Rattle.world_laws.proofs.Covering.{prefix-length, prefix-through, prefix-trans, same-prefix}
-use Rattle.world_laws.proofs.Lists.{below-or-past, neither, or-either, or-first, true-or-false}
-use Rattle.world_laws.proofs.TreeParts.{LastName, at-node, front-dir, named, not-empty, same-front, same-or-other-path}
+use Rattle.world_laws.proofs.Covering.{prefix-length, prefix-through, same-prefix}
+use Rattle.world_laws.proofs.Lists.{below-or-past, or-first, true-or-false}
+use Rattle.world_laws.proofs.TreeParts.{LastName, front-dir, named, not-empty, same-front, same-or-other-path}
 
 -- a move of old with all below it to new, in one tree
 pub record MayMove (old new : Path) (tree : Tree) : Type 0 where
@@ -49,13 +47,13 @@ module _ (old new : Path) (tree : Tree) (may : MayMove old new tree) where
   new-apart = elim (true-or-false (is_prefix new old)) [
     | inr h ↦ h
     | inl h ↦
-      elim (below-or-past (length new) (length old)) [
-        | inl l ↦ absurd (not-below-other new old tree may.clear may.there h l tt)
-        | inr l ↦
-          let same : new ≡ old = same-prefix new old old h (subst (λ x. is_prefix old x ≡ true) (append-nil old) (prefix-append old [])) (let m = prefix-length new old h in omega (arith, l, m)) in
-          let yes : is_prefix old new ≡ true = subst (λ x. is_prefix old x ≡ true) (append-nil old ∙ sym same) (prefix-append old []) in
-          let no = may.apart in absurd (cc)
-      ]
+        elim (below-or-past (length new) (length old)) [
+          | inl l ↦ absurd (not-below-other new old tree may.clear may.there h l tt)
+          | inr l ↦
+              let same : new ≡ old = same-prefix new old old h (subst (λ x. is_prefix old x ≡ true) (append-nil old) (prefix-append old [])) (let m = prefix-length new old h in omega (arith, l, m)) in
+              let yes : is_prefix old new ≡ true = subst (λ x. is_prefix old x ≡ true) (append-nil old ∙ sym same) (prefix-append old []) in
+              let no = may.apart in absurd (cc)
+        ]
   ]
 
   pub at-new : (rest : Path) → value_at path_cmp (new ++ rest) (moved old new tree) ≡ value_at path_cmp (old ++ rest) tree
@@ -70,12 +68,12 @@ module _ (old new : Path) (tree : Tree) (may : MayMove old new tree) where
   pub source : (q : Path) (found : NodeKind) → value_at path_cmp q (moved old new tree) ≡ Some found → Source q found
   source q found h = elim (true-or-false (is_prefix new q)) [
     | inl k ↦
-      let split : q ≡ new ++ drop (length new) q = prefix-splits new q k in
-      record {
-        path = old ++ drop (length new) q;
-        there = sym (at-new (drop (length new) q)) ∙ sym (ap (λ x. value_at path_cmp x (moved old new tree)) split) ∙ h;
-        is = inl (drop (length new) q, split, refl);
-      }
+        let split : q ≡ new ++ drop (length new) q = prefix-splits new q k in
+        record {
+          path = old ++ drop (length new) q;
+          there = sym (at-new (drop (length new) q)) ∙ sym (ap (λ x. value_at path_cmp x (moved old new tree)) split) ∙ h;
+          is = inl (drop (length new) q, split, refl);
+        }
     | inr k ↦ elim (true-or-false (is_prefix old q)) [
       | inl m ↦ let none = moved-away old new tree q k m in absurd (cc)
       | inr m ↦ record { path = q; there = sym (moved-beside old new tree q k m) ∙ h; is = inr (k, m, refl) }
@@ -152,8 +150,8 @@ module _ (old new : Path) (tree : Tree) (may : MayMove old new tree) where
     | inr k ↦ elim (true-or-false (is_prefix old (up ++ last ∷ []))) [
       | inl m ↦ let none : is_some (value_at path_cmp (up ++ last ∷ []) (moved old new tree)) ≡ false = ap is_some (moved-away old new tree (up ++ last ∷ []) k m) in absurd (cc)
       | inr m ↦
-        ap (λ found. is_dir_node found || same_path up []) (moved-beside old new tree up (front-apart new up last k) (front-apart old up last m))
-        ∙ may.closed.parents up last (ap is_some (sym (moved-beside old new tree (up ++ last ∷ []) k m)) ∙ h)
+          ap (λ found. is_dir_node found || same_path up []) (moved-beside old new tree up (front-apart new up last k) (front-apart old up last m))
+          ∙ may.closed.parents up last (ap is_some (sym (moved-beside old new tree (up ++ last ∷ []) k m)) ∙ h)
     ]
     | inl k ↦ at-or-below up last k h (same-or-other-path (up ++ last ∷ []) new)
   ]

@@ -1,15 +1,13 @@
 -- One tree by itself: a node comes, and a node goes.
-use Rattle.std.proofs.Common.{◌≡◌, ◌≢◌, ℕ, suc, ◌+◌, ◌<◌, ◌≤◌, Bool, true, false, cond, not, ◌||◌, ◌&&◌, T, Option, Some, None, is_some, List, [], ◌∷◌, ◌++◌, length, filter, ◌⊎◌, inl, inr, refl, sym, ap, subst, ◌∙◌, arith, length-append, append_assoc}
-use Rattle.std.proofs.lemmas.List.{append-nil}
-use Rattle.std.specs.FinMap.Entries.{find as value_at, is_sorted, is_sorted-put, is_sorted-where_key, length-put, put, by_order}
+use Rattle.std.proofs.Common.{◌≡◌, ◌≢◌, ℕ, suc, ◌+◌, ◌<◌, ◌≤◌, Bool, true, false, cond, not, ◌||◌, None, is_some, List, [], ◌∷◌, ◌++◌, length, filter, ◌⊎◌, inl, inr, refl, sym, ap, ◌∙◌, arith, length-append}
+use Rattle.std.specs.FinMap.Entries.{find as value_at, is_sorted-put, is_sorted-where_key, length-put, put, by_order}
 use Rattle.std.specs.List.{list_any}
 use Rattle.std.specs.declared.cmp.Ordering.{Ordering}
 use Rattle.std.specs.declared.cmp.Ordering.TheVariants.{Less, Equal, Greater}
 use Rattle.vfs_base.specs.Path.{Path, path_cmp}
-use Rattle.vfs_base.specs.PathLaws.{path_cmp_exact, path_cmp_total}
+use Rattle.vfs_base.specs.PathLaws.{path_cmp_total}
 use Rattle.vfs_base.specs.declared.kinds.NodeKind.{NodeKind}
-use Rattle.vfs_base.specs.declared.kinds.NodeKind.TheVariants as node
-use Rattle.vfs_model.proofs.Trees.{at-put-here, at-put-other, at-without-here, at-without-other, same_path-is, same_path-itself, same_path-other}
+use Rattle.vfs_model.proofs.Trees.{at-put-other, at-without-here, at-without-other, same_path-is, same_path-itself, same_path-other}
 use Rattle.vfs_model.specs.Consistency.{IsClosedTree}
 use Rattle.vfs_model.specs.Lookup.{is_dir_node, node_in}
 use Rattle.vfs_model.specs.Namespace.{Tree, same_path}
@@ -75,18 +73,18 @@ put-parents : (tree : Tree) (rest front : Path) (name : List ℕ) (new : NodeKin
     (is_dir_node (value_at path_cmp up (put path_cmp rest new tree)) || same_path up []) ≡ true
 put-parents tree rest front name new closed absent e dir up last h = elim (same-or-other-path (up ++ last ∷ []) rest) [
   | inl same ↦
-    let fronts : up ≡ front = same-front up front last name (same ∙ e) in
-    let apart : up ≢ rest = λ k. longer up last (same ∙ sym k) in
-    ap (λ found. is_dir_node found || same_path up []) (at-put-other rest up new tree apart)
-    ∙ ap (λ p. is_dir_node (value_at path_cmp p tree) || same_path p []) fronts ∙ front-dir tree front dir
+      let fronts : up ≡ front = same-front up front last name (same ∙ e) in
+      let apart : up ≢ rest = λ k. longer up last (same ∙ sym k) in
+      ap (λ found. is_dir_node found || same_path up []) (at-put-other rest up new tree apart)
+      ∙ ap (λ p. is_dir_node (value_at path_cmp p tree) || same_path p []) fronts ∙ front-dir tree front dir
   | inr other ↦
-    let there : is_some (value_at path_cmp (up ++ last ∷ []) tree) ≡ true = ap is_some (sym (at-put-other rest (up ++ last ∷ []) new tree other)) ∙ h in
-    let before = closed.parents up last there in
-    let apart : up ≢ rest = λ k.
-    let none : is_dir_node (value_at path_cmp up tree) ≡ false = ap is_dir_node (ap (λ p. value_at path_cmp p tree) k ∙ absent) in
-    let root : same_path up [] ≡ false = same_path-other up [] (λ x. not-empty front name (sym e ∙ sym k ∙ x)) in
-    let neither-one = neither (is_dir_node (value_at path_cmp up tree)) (same_path up []) none root in absurd (cc) in
-    ap (λ found. is_dir_node found || same_path up []) (at-put-other rest up new tree apart) ∙ before
+      let there : is_some (value_at path_cmp (up ++ last ∷ []) tree) ≡ true = ap is_some (sym (at-put-other rest (up ++ last ∷ []) new tree other)) ∙ h in
+      let before = closed.parents up last there in
+      let apart : up ≢ rest = λ k.
+      let none : is_dir_node (value_at path_cmp up tree) ≡ false = ap is_dir_node (ap (λ p. value_at path_cmp p tree) k ∙ absent) in
+      let root : same_path up [] ≡ false = same_path-other up [] (λ x. not-empty front name (sym e ∙ sym k ∙ x)) in
+      let neither-one = neither (is_dir_node (value_at path_cmp up tree)) (same_path up []) none root in absurd (cc) in
+      ap (λ found. is_dir_node found || same_path up []) (at-put-other rest up new tree apart) ∙ before
 ]
   where
     longer : (p : Path) (n : List ℕ) → p ++ n ∷ [] ≢ p
@@ -137,15 +135,15 @@ without-parents : (tree : Tree) (rest : Path) → IsClosedTree is_dir_node tree 
     is_some (value_at path_cmp (up ++ last ∷ []) (without rest tree)) ≡ true → (is_dir_node (value_at path_cmp up (without rest tree)) || same_path up []) ≡ true
 without-parents tree rest closed childless up last h = elim (same-or-other-path (up ++ last ∷ []) rest) [
   | inl same ↦
-    let none : is_some (value_at path_cmp (up ++ last ∷ []) (without rest tree)) ≡ false =
-    ap (λ p. is_some (value_at path_cmp p (without rest tree))) same ∙ ap is_some (at-without-here rest tree) in
-    absurd (cc)
+      let none : is_some (value_at path_cmp (up ++ last ∷ []) (without rest tree)) ≡ false =
+      ap (λ p. is_some (value_at path_cmp p (without rest tree))) same ∙ ap is_some (at-without-here rest tree) in
+      absurd (cc)
   | inr other ↦
-    let there : is_some (value_at path_cmp (up ++ last ∷ []) tree) ≡ true = ap is_some (sym (at-without-other rest (up ++ last ∷ []) tree other)) ∙ h in
-    let apart : up ≢ rest = λ k.
-    let none : is_some (value_at path_cmp (up ++ last ∷ []) tree) ≡ false = ap (λ p. is_some (value_at path_cmp (p ++ last ∷ []) tree)) k ∙ ap is_some (childless last) in
-    absurd (cc) in
-    ap (λ found. is_dir_node found || same_path up []) (at-without-other rest up tree apart) ∙ closed.parents up last there
+      let there : is_some (value_at path_cmp (up ++ last ∷ []) tree) ≡ true = ap is_some (sym (at-without-other rest (up ++ last ∷ []) tree other)) ∙ h in
+      let apart : up ≢ rest = λ k.
+      let none : is_some (value_at path_cmp (up ++ last ∷ []) tree) ≡ false = ap (λ p. is_some (value_at path_cmp (p ++ last ∷ []) tree)) k ∙ ap is_some (childless last) in
+      absurd (cc) in
+      ap (λ found. is_dir_node found || same_path up []) (at-without-other rest up tree apart) ∙ closed.parents up last there
 ]
 
 -- a node goes that has no children

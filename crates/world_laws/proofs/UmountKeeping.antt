@@ -1,23 +1,20 @@
 -- An unmount keeps what holds.
-use Rattle.std.proofs.Common.{◌≡◌, ◌≢◌, ℕ, zero, suc, ◌+◌, ◌-◌, ◌<◌, ◌≤◌, Bool, true, false, not, ◌||◌, ◌&&◌, ◌==◌, Option, Some, None, List, [], ◌∷◌, ◌++◌, length, filter, find, slice_index_or, ◌⊎◌, inl, inr, if◌then◌else◌, refl, sym, ap, subst, ◌∙◌, arith}
+use Rattle.std.proofs.Common.{◌≡◌, ◌≢◌, ℕ, suc, ◌-◌, ◌<◌, Bool, true, false, ◌||◌, ◌==◌, Some, List, [], ◌∷◌, length, find, slice_index_or, inl, inr, if◌then◌else◌, refl, sym, ap, subst, ◌∙◌, arith}
 use Rattle.std.proofs.lemmas.List.{get_or_past}
 use Rattle.std.specs.List.{list_any}
 use Rattle.vfs_base.specs.Path.{Path}
 use Rattle.vfs_base.specs.declared.errno.Errno.TheVariants as errno
-use Rattle.vfs_model.proofs.Trees.{same_path-other}
-use Rattle.vfs_model.specs.Chain.{◌>>=◌, ◌>>◌, refuse◌when◌, wanted}
-use Rattle.vfs_model.specs.Lookup.{asked_path, covering_mount, has_mount_below, is_below, is_prefix}
-use Rattle.vfs_model.specs.NameSteps.{done}
+use Rattle.vfs_model.specs.Chain.{refuse◌when◌}
+use Rattle.vfs_model.specs.Lookup.{asked_path, covering_mount, has_mount_below, is_below}
 use Rattle.vfs_model.specs.Namespace.{all_mounts, folder_of, same_path}
-use Rattle.vfs_model.specs.UmountSteps.{is_busy, mount_at_point, refers_to_mount, remove_mount, umount_at, umount_step}
+use Rattle.vfs_model.specs.UmountSteps.{is_busy, mount_at_point, refers_to_mount, umount_at, umount_step}
 use Rattle.vfs_model.specs.declared.namespace.Mount.{Mount}
 use Rattle.vfs_model.specs.declared.namespace.Namespace.{Namespace}
 use Rattle.world_laws.proofs.Clear.{below-prefix}
 use Rattle.world_laws.proofs.Covering.{IsMount, covering-is, covers-prefix, one-number, one-point, prefix-length, same-prefix}
-use Rattle.world_laws.proofs.Keeping.{Keeps, Kept, bind-kept, then-kept, wanted-kept}
-use Rattle.world_laws.proofs.Lists.{below-or-past, no-place, nor-first, nor-second, number-itself, or-first, or-second, place-any, same-number, same-or-other, same-some, true-or-false}
+use Rattle.world_laws.proofs.Keeping.{Kept, bind-kept, then-kept, wanted-kept}
+use Rattle.world_laws.proofs.Lists.{below-or-past, no-place, nor-first, nor-second, number-itself, place-any, same-or-other, same-some}
 use Rattle.world_laws.proofs.MountRemoval.{removal}
-use Rattle.world_laws.proofs.Nodes.{prefix-itself}
 use Rattle.world_laws.proofs.Passing.{refuse-passed}
 use Rattle.world_laws.proofs.Standing.{Nothing, Stands}
 use Rattle.world_laws.proofs.Unmounting.{MayLeave}
@@ -56,10 +53,13 @@ root-busy n s free = by n.mounts refl
   where
     both : {b : Bool} → b ≡ true → b ≡ false → ⊥
     both h k = absurd (cc)
+
     below : has_mount_below n n.root.point ≡ false
     below = nor-first (has_mount_below n n.root.point) _ (nor-first (has_mount_below n n.root.point || list_any (refers_to_mount n.root.number) n.references) _ free)
+
     away : list_any (λ folder. (covering_mount n folder).number == n.root.number) n.folders ≡ false
     away = nor-second (has_mount_below n n.root.point || list_any (refers_to_mount n.root.number) n.references) _ free
+
     by : (mounts : List Mount) → n.mounts ≡ mounts → ⊥
     by [] e =
         let first : list_any (λ folder. (covering_mount n folder).number == n.root.number) n.folders ≡ true =
@@ -83,6 +83,7 @@ root-busy n s free = by n.mounts refl
       where
         ap-length : 1 < length (all_mounts n)
         ap-length = let l = ap (λ xs. length xs) e in omega (arith, l)
+
         longer : (p : Path) → p ≢ [] → 0 < length p
         longer [] h = absurd (h refl)
         longer (x ∷ p) h = omega arith
@@ -106,10 +107,10 @@ may-leave n path mount s found free =
         | inr l ↦ elim (same-or-other (k - 1) (length n.folders)) [
           | inl past ↦ other (ap (λ m. m.number) (sym (root-covers n s)) ∙ sym (ap (λ p. (covering_mount n p).number) (get_or_past n.folders (k - 1) [] (omega (arith, past)))) ∙ e)
           | inr within ↦
-            let none = no-place (λ folder. (covering_mount n folder).number == mount.number) n.folders (k - 1) []
-            (nor-second (has_mount_below n mount.point || list_any (refers_to_mount mount.number) n.references) _ free) (omega (arith, l, within)) in
-            let yes : ((covering_mount n (folder_of n k)).number == mount.number) ≡ true = ap (λ x. x == mount.number) e ∙ number-itself mount.number in
-            absurd (cc)
+              let none = no-place (λ folder. (covering_mount n folder).number == mount.number) n.folders (k - 1) []
+              (nor-second (has_mount_below n mount.point || list_any (refers_to_mount mount.number) n.references) _ free) (omega (arith, l, within)) in
+              let yes : ((covering_mount n (folder_of n k)).number == mount.number) ≡ true = ap (λ x. x == mount.number) e ∙ number-itself mount.number in
+              absurd (cc)
         ]
       ];
     }

@@ -1,14 +1,13 @@
 -- A mount that is not busy goes, with all its files.
-use Rattle.std.proofs.Common.{◌≡◌, ◌≢◌, ℕ, zero, suc, ◌+◌, ◌-◌, ◌*◌, ◌<◌, ◌≤◌, Bool, true, false, cond, not, ◌||◌, ◌&&◌, ◌==◌, T, Option, Some, None, is_some, IsSomeAnd, List, [], ◌∷◌, ◌++◌, length, map, filter, fold, find, drop, slice_index_or, slice_set, ◌⊎◌, inl, inr, if◌then◌else◌, refl, sym, ap, subst, ◌∙◌, arith}
-use Rattle.std.proofs.lemmas.List.{get_or_past, length-set, set_past}
+use Rattle.std.proofs.Common.{◌≡◌, ◌≢◌, ℕ, zero, suc, ◌-◌, ◌<◌, ◌≤◌, Bool, true, false, cond, not, ◌||◌, ◌&&◌, ◌==◌, T, Option, Some, None, is_some, IsSomeAnd, List, [], ◌∷◌, ◌++◌, length, map, filter, drop, slice_index_or, slice_set, ◌⊎◌, inl, inr, if◌then◌else◌, refl, sym, ap, subst, ◌∙◌, arith}
+use Rattle.std.proofs.lemmas.List.{length-set, set_past}
 use Rattle.std.proofs.lemmas.List.Folds.{position_or_len-set}
-use Rattle.std.proofs.lemmas.List.Sums.{count_by-le-length, length-filter, passes_at_first, sum_by-cons}
+use Rattle.std.proofs.lemmas.List.Sums.{count_by-le-length, length-filter, passes_at_first}
 use Rattle.std.specs.Cmp.Lexicographic.{bytes_decides}
 use Rattle.std.specs.FinMap.Entries.{below_all, find as value_at, is_sorted}
-use Rattle.std.specs.List.{list_any, enumerate_from, position_or_len}
+use Rattle.std.specs.List.{list_any, position_or_len}
 use Rattle.std.specs.Option.{option_map}
 use Rattle.std.specs.Ordering.{eq_by_cmp, is_lt}
-use Rattle.std.specs.Prelude.{count_by, nat_lt}
 use Rattle.vfs_base.specs.Path.{Path, path_cmp, printed}
 use Rattle.vfs_base.specs.declared.ids.FileId.{FileId}
 use Rattle.vfs_base.specs.declared.kinds.FsType.{FsType}
@@ -17,40 +16,30 @@ use Rattle.vfs_base.specs.declared.kinds.Kind.{Kind}
 use Rattle.vfs_base.specs.declared.kinds.NodeKind.{NodeKind}
 use Rattle.vfs_base.specs.declared.kinds.NodeKind.TheVariants as node
 use Rattle.vfs_model.proofs.MountLaws.{nearest-others, unmounted-leaves}
-use Rattle.vfs_model.proofs.Trees.{same_path-other}
-use Rattle.vfs_model.specs.Boxes.{BoxesPlaced, RomsClosed, cell_files, fits_kind, is_backed_by, is_kept_dir, is_kept_on, lies_on_cell, one_if}
-use Rattle.vfs_model.specs.Consistency.{FoldersStand, IsClosedTree, IsLive, LivesFit, ReferencesLive, covered_mount, fits_mount, is_number, mount_numbered, same_kind, stands_on_folder}
+use Rattle.vfs_model.specs.Boxes.{RomsClosed, fits_kind, is_kept_dir}
+use Rattle.vfs_model.specs.Consistency.{FoldersStand, IsClosedTree, IsLive, ReferencesLive, covered_mount, is_number, stands_on_folder}
 use Rattle.vfs_model.specs.Content.{is_mounted, same_type}
-use Rattle.vfs_model.specs.FileLife.{Rows, backing_of, end_of_unmounted, free_row, no_volume, volume_at, volume_named, with_kept}
-use Rattle.vfs_model.specs.Homes.{cell_capacity, change_row}
+use Rattle.vfs_model.specs.FileLife.{no_volume, volume_at, volume_named}
 use Rattle.vfs_model.specs.Laws.{without_mount}
 use Rattle.vfs_model.specs.Lookup.{covering_mount, has_mount_below, is_below, is_dir_node, is_folder, is_prefix, nearest, node_at, node_in, with_tree}
 use Rattle.vfs_model.specs.Namespace.{Tree, all_mounts, folder_of, life_at, same_bytes, same_path, tree_of}
-use Rattle.vfs_model.specs.OpenStep.{kind_of}
-use Rattle.vfs_model.specs.UmountSteps.{cell_of, is_of_mount, keep_names, kept_node, refers_to_mount, rows_of_mount}
-use Rattle.vfs_model.specs.declared.namespace.Backing.{Backing}
-use Rattle.vfs_model.specs.declared.namespace.Backing.TheVariants as backing
+use Rattle.vfs_model.specs.UmountSteps.{is_of_mount, keep_names, kept_node, refers_to_mount, rows_of_mount}
 use Rattle.vfs_model.specs.declared.namespace.KeptNode.{KeptNode}
-use Rattle.vfs_model.specs.declared.namespace.KeptNode.TheVariants as kept
 use Rattle.vfs_model.specs.declared.namespace.LiveFile.{LiveFile}
 use Rattle.vfs_model.specs.declared.namespace.Mount.{Mount}
 use Rattle.vfs_model.specs.declared.namespace.Namespace.{Namespace}
-use Rattle.vfs_model.specs.declared.namespace.Reference.{Reference}
-use Rattle.vfs_model.specs.declared.namespace.VolumeState.{VolumeState}
-use Rattle.world_laws.proofs.Beside.{alive-beside}
 use Rattle.world_laws.proofs.Binding.{Rest}
-use Rattle.world_laws.proofs.Covering.{IsMount, any-default, covering-is, one-number}
-use Rattle.world_laws.proofs.Emptying.{Empty, InRows, RowsLeft, of-mount, twice}
-use Rattle.world_laws.proofs.Leaving.{count-any, count-place, in-left, kept-apart, kept_place, kept-rising, kept-within, none-count, one-place, rows-in, rows-left, some-count, unique-count}
-use Rattle.world_laws.proofs.Lists.{AnyNode, AnyPlace, any-node, any-place, below-none, below-or-past, neither, no-place, node-any, nor-first, nor-second, number-itself, or-either, or-first, or-second, other-number, place-any, same-number, same-or-other, same-some, set-here, set-there, some-within, true-or-false}
-use Rattle.world_laws.proofs.MountKeeping.{counted-place}
-use Rattle.world_laws.proofs.Passing.{and-both, and-first, and-second}
-use Rattle.world_laws.proofs.Points.{mount-at, point-covers}
+use Rattle.world_laws.proofs.Covering.{IsMount, one-number}
+use Rattle.world_laws.proofs.Emptying.{InRows, RowsLeft, of-mount}
+use Rattle.world_laws.proofs.Leaving.{in-left, kept-apart, kept_place, kept-rising, kept-within, rows-in, rows-left}
+use Rattle.world_laws.proofs.Lists.{AnyPlace, any-place, below-or-past, no-place, number-itself, or-either, or-first, or-second, other-number, same-number, same-or-other, same-some, set-here, set-there, some-within, true-or-false}
+use Rattle.world_laws.proofs.Passing.{and-first, and-second}
+use Rattle.world_laws.proofs.Points.{point-covers}
 use Rattle.world_laws.proofs.Clear.{below-prefix}
 use Rattle.world_laws.proofs.Covering.{prefix-length, same-prefix}
 use Rattle.world_laws.proofs.Nodes.{prefix-itself}
-use Rattle.world_laws.proofs.Standing.{Held, HeldIn, IsUsed, Linked, LinkedIn, NamespaceSizes, Nothing, Stands}
-use Rattle.world_laws.proofs.Taking.{BoxesBut, boxes-but, set-at}
+use Rattle.world_laws.proofs.Standing.{Held, IsUsed, Linked, Nothing, Stands}
+use Rattle.world_laws.proofs.Taking.{BoxesBut, set-at}
 
 -- the test by which a mount is left out
 abbrev pub stays : ℕ → Mount → Bool
@@ -180,7 +169,7 @@ module _ (n : Namespace) (mount : Mount) (s : Stands Nothing n) (may : MayLeave 
       ap (λ trees. slice_index_or trees (covered_mount n q).number []) (left-trees f) ∙ set-there n.trees mount.number (covered_mount n q).number [] [] other in
       subst (stands_on_folder (left_by n mount f)) (sym here)
       (subst (λ cm. (node_in (tree_of (left_by n mount f) cm.number) (drop (length cm.point) q) ≡ Some node.Dir)
-        × (list_any (λ entry. is_below (drop (length cm.point) q) entry.0) (tree_of (left_by n mount f) cm.number) ≡ false)) (sym (left-covered f q other))
+      × (list_any (λ entry. is_below (drop (length cm.point) q) entry.0) (tree_of (left_by n mount f) cm.number) ≡ false)) (sym (left-covered f q other))
       (subst (λ t. (node_in t (drop (length (covered_mount n q).point) q) ≡ Some node.Dir) × (list_any (λ entry. is_below (drop (length (covered_mount n q).point) q) entry.0) t ≡ false)) (sym tree)
       (s.folders.points was d within.0)))
 
@@ -241,7 +230,7 @@ module _ (n : Namespace) (mount : Mount) (s : Stands Nothing n) (may : MayLeave 
         let b = at-from f other d m in
         ap (λ x. is_below x.point (slice_index_or (all_mounts (left_by n mount f)) place d).point) b.1 ∙ ap (λ x. is_below (slice_index_or (all_mounts n) (kept_place (stays mount.number) (all_mounts n) other) d).point x.point) a.1
         ∙ s.folders.nested (kept_place (stays mount.number) (all_mounts n) place) (kept_place (stays mount.number) (all_mounts n) other) d
-          (kept-rising (stays mount.number) (all_mounts n) place other l (subst (λ ms. other < length ms) (all-left f) m)) b.0;
+        (kept-rising (stays mount.number) (all_mounts n) place other l (subst (λ ms. other < length ms) (all-left f) m)) b.0;
     unused = left-unused f;
   }
 
@@ -334,8 +323,8 @@ module _ (n : Namespace) (mount : Mount) (s : Stands Nothing n) (may : MayLeave 
       named (inl linked) = elim (same-or-other linked.number mount.number) [
         | inr e ↦ inl (linked-after f row linked e)
         | inl e ↦
-          let live = s.live.linked linked.number linked.path linked.id linked.kind linked.there in
-          inr (inr (subst (InRows (rows_of_mount n mount.number)) linked.is (of-live (life_at n linked.id.row) refl live.life (live.row) linked.id.row refl linked.number e)))
+            let live = s.live.linked linked.number linked.path linked.id linked.kind linked.there in
+            inr (inr (subst (InRows (rows_of_mount n mount.number)) linked.is (of-live (life_at n linked.id.row) refl live.life (live.row) linked.id.row refl linked.number e)))
       ]
         where
           of-live : (found : Option LiveFile) → life_at n linked.id.row ≡ found → IsSomeAnd found (λ life. (life.kind ≡ linked.kind) × (life.mount ≡ linked.number)) → 0 < linked.id.row → (row : ℕ) → linked.id.row ≡ row → (number : ℕ) → linked.number ≡ mount.number →
@@ -409,7 +398,7 @@ module _ (n : Namespace) (mount : Mount) (s : Stands Nothing n) (may : MayLeave 
               (same_type m.fs fs.Cell && same_bytes m.source name || list_any (λ m. same_type m.fs fs.Cell && same_bytes m.source name) mounts) ≡ true
           by true e later =
               either (or-either (same_type m.fs fs.Cell && same_bytes m.source name) (list_any (λ m. same_type m.fs fs.Cell && same_bytes m.source name) (filter (stays mount.number) mounts))
-                (sym (ap (λ b. list_any (λ m. same_type m.fs fs.Cell && same_bytes m.source name) (if b then m ∷ filter (stays mount.number) mounts else filter (stays mount.number) mounts)) e) ∙ k))
+              (sym (ap (λ b. list_any (λ m. same_type m.fs fs.Cell && same_bytes m.source name) (if b then m ∷ filter (stays mount.number) mounts else filter (stays mount.number) mounts)) e) ∙ k))
             where
               either : ((same_type m.fs fs.Cell && same_bytes m.source name) ≡ true) ⊎ (list_any (λ m. same_type m.fs fs.Cell && same_bytes m.source name) (filter (stays mount.number) mounts) ≡ true) →
                   (same_type m.fs fs.Cell && same_bytes m.source name || list_any (λ m. same_type m.fs fs.Cell && same_bytes m.source name) mounts) ≡ true
@@ -512,6 +501,7 @@ module _ (n : Namespace) (mount : Mount) (s : Stands Nothing n) (may : MayLeave 
       some-map : (found : Option NodeKind) → is_some (option_map (kept_node n) found) ≡ true → is_some found ≡ true
       some-map None h = h
       some-map (Some x) h = refl
+
       dir-map : (found : Option NodeKind) → is_dir_node found ≡ true → is_kept_dir (option_map (kept_node n) found) ≡ true
       dir-map None h = absurd (cc)
       dir-map (Some node.Dir) h = refl
@@ -525,27 +515,27 @@ module _ (n : Namespace) (mount : Mount) (s : Stands Nothing n) (may : MayLeave 
   cell-left cell = elim (below-or-past (volume_named n mount.source) (length n.volumes)) [
     | inr past ↦ other-left fs.Cell (keep-past past)
     | inl l ↦ record {
-        spares = λ u. ap (λ xs. length xs) (keep-spare u) ∙ s.boxes.spares u ∙ sym (ap (λ xs. length xs) (keep-pages u));
-        kinds = s.boxes.kinds;
-        mounted = λ u h. elim (same-or-other u (volume_named n mount.source)) [
-          | inl e ↦
+      spares = λ u. ap (λ xs. length xs) (keep-spare u) ∙ s.boxes.spares u ∙ sym (ap (λ xs. length xs) (keep-pages u));
+      kinds = s.boxes.kinds;
+      mounted = λ u h. elim (same-or-other u (volume_named n mount.source)) [
+        | inl e ↦
             let name : (volume_at (left_by n mount fs.Cell) u).name ≡ mount.source = keep-name u ∙ ap (λ k. (volume_at n k).name) e ∙ own-name l in
             let none = mounted-left fs.Cell cell in
             let yes = sym (ap (is_mounted (left_by n mount fs.Cell) fs.Cell) name) ∙ h in
             absurd (cc)
-          | inr e ↦ keep-other u e ∙ s.boxes.mounted u (mounted-less fs.Cell (volume_at n u).name (sym (ap (is_mounted (left_by n mount fs.Cell) fs.Cell) (keep-name u)) ∙ h))
-        ];
-        kept = λ u. elim (same-or-other u (volume_named n mount.source)) [
-          | inl e ↦ subst (IsClosedTree is_kept_dir) (sym (ap (λ k. (volume_at (left_by n mount fs.Cell) k).kept) e ∙ keep-own l)) names-closed
-          | inr e ↦ subst (IsClosedTree is_kept_dir) (sym (keep-other u e)) (s.boxes.kept u)
-        ];
-        sources_differ = sources-left fs.Cell;
-        named = λ u. elim (same-or-other u (volume_named n mount.source)) [
-          | inl e ↦ inr (keep-named _ ∙ ap (volume_named n) (keep-name u ∙ ap (λ k. (volume_at n k).name) e ∙ own-name l) ∙ sym e)
-          | inr e ↦ elim (s.boxes.named u) [
-            | inl h ↦ inl (keep-other u e ∙ h)
-            | inr h ↦ inr (keep-named _ ∙ ap (volume_named n) (keep-name u) ∙ h)
-          ]
-        ];
-      }
+        | inr e ↦ keep-other u e ∙ s.boxes.mounted u (mounted-less fs.Cell (volume_at n u).name (sym (ap (is_mounted (left_by n mount fs.Cell) fs.Cell) (keep-name u)) ∙ h))
+      ];
+      kept = λ u. elim (same-or-other u (volume_named n mount.source)) [
+        | inl e ↦ subst (IsClosedTree is_kept_dir) (sym (ap (λ k. (volume_at (left_by n mount fs.Cell) k).kept) e ∙ keep-own l)) names-closed
+        | inr e ↦ subst (IsClosedTree is_kept_dir) (sym (keep-other u e)) (s.boxes.kept u)
+      ];
+      sources_differ = sources-left fs.Cell;
+      named = λ u. elim (same-or-other u (volume_named n mount.source)) [
+        | inl e ↦ inr (keep-named _ ∙ ap (volume_named n) (keep-name u ∙ ap (λ k. (volume_at n k).name) e ∙ own-name l) ∙ sym e)
+        | inr e ↦ elim (s.boxes.named u) [
+          | inl h ↦ inl (keep-other u e ∙ h)
+          | inr h ↦ inr (keep-named _ ∙ ap (volume_named n) (keep-name u) ∙ h)
+        ]
+      ];
+    }
   ]

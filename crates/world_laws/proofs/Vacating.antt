@@ -1,10 +1,9 @@
 -- The cells of a mount that goes are counted for its live files and for the names that its volume keeps.
-use Rattle.std.proofs.Common.{◌≡◌, ◌≢◌, ℕ, zero, suc, ◌+◌, ◌-◌, ◌<◌, ◌≤◌, Bool, true, false, cond, not, ◌||◌, ◌&&◌, ◌==◌, T, Option, Some, None, is_some, IsSomeAnd, List, [], ◌∷◌, ◌++◌, length, map, filter, find, slice_index_or, slice_set, ◌⊎◌, inl, inr, if◌then◌else◌, refl, sym, ap, subst, ◌∙◌, arith}
+use Rattle.std.proofs.Common.{◌≡◌, ◌≢◌, ℕ, ◌+◌, ◌-◌, ◌<◌, ◌≤◌, Bool, true, false, not, ◌&&◌, ◌==◌, T, Option, Some, None, IsSomeAnd, List, [], ◌∷◌, length, map, filter, find, slice_index_or, ◌⊎◌, inl, inr, if◌then◌else◌, refl, sym, ap, subst, ◌∙◌, arith}
 use Rattle.std.proofs.lemmas.List.{length-set}
 use Rattle.std.proofs.lemmas.List.Sums.{sum_by-cons}
 use Rattle.std.specs.Cmp.Lexicographic.{bytes_decides}
 use Rattle.std.specs.FinMap.Entries.{find as value_at, is_sorted}
-use Rattle.std.specs.List.{list_any}
 use Rattle.std.specs.Option.{option_map}
 use Rattle.std.specs.Prelude.{count_by}
 use Rattle.vfs_base.specs.Path.{Path, path_cmp}
@@ -15,9 +14,9 @@ use Rattle.vfs_base.specs.declared.kinds.Kind.{Kind}
 use Rattle.vfs_base.specs.declared.kinds.Kind.TheVariants as kind
 use Rattle.vfs_base.specs.declared.kinds.NodeKind.{NodeKind}
 use Rattle.vfs_base.specs.declared.kinds.NodeKind.TheVariants as node
-use Rattle.vfs_model.specs.Boxes.{cell_files, fits_kind, is_backed_by, is_kept_on, lies_on_cell, lies_on_device, one_if}
-use Rattle.vfs_model.specs.Consistency.{LivesFit, fits_mount, mount_numbered, same_kind}
-use Rattle.vfs_model.specs.FileLife.{backing_of, no_device, no_volume, volume_at, volume_named}
+use Rattle.vfs_model.specs.Boxes.{cell_files, fits_kind, is_backed_by, is_kept_on, lies_on_cell, one_if}
+use Rattle.vfs_model.specs.Consistency.{fits_mount, mount_numbered, same_kind}
+use Rattle.vfs_model.specs.FileLife.{backing_of, volume_at, volume_named}
 use Rattle.vfs_model.specs.Content.{is_mounted, same_type}
 use Rattle.vfs_model.specs.Namespace.{all_mounts, life_at, same_bytes, tree_of}
 use Rattle.vfs_model.specs.FileStep.{is_cell}
@@ -31,13 +30,13 @@ use Rattle.vfs_model.specs.declared.namespace.LiveFile.{LiveFile}
 use Rattle.vfs_model.specs.declared.namespace.Mount.{Mount}
 use Rattle.vfs_model.specs.declared.namespace.Namespace.{Namespace}
 use Rattle.world_laws.proofs.Emptying.{AllAbove, Empty, InRows, RowsLeft, twice}
-use Rattle.world_laws.proofs.Leaving.{count-any, count-place, in-left, none-count, one-place, rows-left, some-count, unique-count}
-use Rattle.world_laws.proofs.Lists.{any-node, below-or-past, node-any, number-itself, place-any, other-number, same-number, same-or-other, same-some, some-within, true-or-false}
+use Rattle.world_laws.proofs.Leaving.{count-any, in-left, one-place, rows-left, some-count, unique-count}
+use Rattle.world_laws.proofs.Lists.{any-node, below-or-past, node-any, number-itself, place-any, other-number, same-number, same-or-other, same-some, true-or-false}
 use Rattle.world_laws.proofs.OpenKeeping.{numbered}
 use Rattle.world_laws.proofs.Passing.{and-first, and-second}
-use Rattle.world_laws.proofs.Standing.{Held, Linked, Nothing, Stands}
+use Rattle.world_laws.proofs.Standing.{Nothing, Stands}
 use Rattle.world_laws.proofs.Taking.{BoxesBut, DevicesPlaced}
-use Rattle.world_laws.proofs.Unmounting.{MayLeave, all-left, cell-left, keep-name, keep-named, keep-other, keep-own, keep-pages, keep-past, keep-spare, left-rest, left-rows, left-same, left_by, linked-own, name-at, names-sorted, not-held, other-left, own-linked, own-name, row-life, row-of, some-life-mount, stays, tree-gone, there-before}
+use Rattle.world_laws.proofs.Unmounting.{MayLeave, all-left, cell-left, keep-named, keep-other, keep-own, keep-pages, keep-spare, left-rest, left-rows, left-same, left_by, linked-own, name-at, names-sorted, not-held, other-left, own-linked, own-name, row-life, row-of, stays, there-before}
 
 -- a row of a list that passes
 pub some-row : (p : ℕ → Bool) (rows : List ℕ) → 0 < count_by p rows → (row : ℕ) × InRows rows row × (p row ≡ true)
@@ -84,6 +83,7 @@ one-row number m p (r ∷ rows) left one = by (p r) refl (one-row number m p row
   where
     all : count_by p (r ∷ rows) ≡ one_if (p r) + count_by p rows
     all = sum_by-cons (λ x. one_if (p x)) r rows
+
     by : (b : Bool) → p r ≡ b → count_by p rows ≤ 1 → count_by p (r ∷ rows) ≤ 1
     by true e later =
         let none = no-rows p rows (λ row i. elim (true-or-false (p row)) [
@@ -212,25 +212,32 @@ module _ (n : Namespace) (mount : Mount) (s : Stands Nothing n) (may : MayLeave 
     where
       names : List (Path × KeptNode)
       names = map (λ entry. (entry.0, kept_node n entry.1)) (tree_of n mount.number)
+
       sorted : T (is_sorted path_cmp names)
       sorted = subst T (sym (names-sorted n mount s may (tree_of n mount.number))) (s.trees mount.number).sorted
+
       place : (row : ℕ) → InRows (rows_of_mount n mount.number) row → (0 < row) × (row - 1 < 1024)
       place row i = let left = in-left mount.number n (rows_of_mount n mount.number) row (left-rows n mount s may) i in (left.0, left.1)
+
       one : (a b : ℕ) → InRows (rows_of_mount n mount.number) a → InRows (rows_of_mount n mount.number) b →
           is_backed_by (lies_on_cell (volume_named n mount.source) cell) (life_at n a) ≡ true → is_backed_by (lies_on_cell (volume_named n mount.source) cell) (life_at n b) ≡ true → a ≡ b
       one a b i j h k = same-cell (volume_named n mount.source) cell a b l c (place a i).0 (place b j).0 (place a i).1 (place b j).1 h k
+
       most : count_by (λ entry. is_kept_on cell entry.1) names ≤ 1
       most = unique-count (is_kept_on cell) names sorted (λ p q a b h i k j.
           let x = name-on p cell a h i in
           let y = name-on q cell b k j in
           (s.alone mount.number mount.number p q x.id y.id x.kind y.kind x.there y.there (one x.id.row y.id.row x.row y.row x.backed y.backed)).1)
+
       least : twice n (volume_named n mount.source) cell (rows_of_mount n mount.number) ≤ 1
       least = one-row mount.number n (λ row. is_backed_by (lies_on_cell (volume_named n mount.source) cell) (life_at n row)) (rows_of_mount n mount.number) (left-rows n mount s may) one
+
       more : 0 < count_by (λ entry. is_kept_on cell entry.1) names → 0 < twice n (volume_named n mount.source) cell (rows_of_mount n mount.number)
       more m =
           let found = any-node (is_kept_on cell) names sorted (count-any (λ entry. is_kept_on cell entry.1) names ([], kept.Dir) m) in
           let x = name-on found.path cell found.node found.there found.holds in
           row-count (λ row. is_backed_by (lies_on_cell (volume_named n mount.source) cell) (life_at n row)) (rows_of_mount n mount.number) x.id.row x.row x.backed
+
       less : 0 < twice n (volume_named n mount.source) cell (rows_of_mount n mount.number) → 0 < count_by (λ entry. is_kept_on cell entry.1) names
       less m =
           let found = some-row (λ row. is_backed_by (lies_on_cell (volume_named n mount.source) cell) (life_at n row)) (rows_of_mount n mount.number) m in
@@ -239,7 +246,8 @@ module _ (n : Namespace) (mount : Mount) (s : Stands Nothing n) (may : MayLeave 
           let there = name-at n mount s may linked.path (tree_of n mount.number) ∙ ap (option_map (kept_node n)) (ap (λ k. value_at path_cmp linked.path (tree_of n k)) (sym own) ∙ linked.there) in
           let backed = ap (λ x. backing_of (life_at n x)) linked.is ∙ backed-live (life_at n found.0) (volume_named n mount.source) cell found.2 in
           some-count (λ entry. is_kept_on cell entry.1) names (node-any (is_kept_on cell) names linked.path (kept_node n (node.File linked.id linked.kind)) there
-            (ap (λ b. is_kept_on cell (cell_of b)) backed ∙ number-itself cell))
+          (ap (λ b. is_kept_on cell (cell_of b)) backed ∙ number-itself cell))
+
       equal : {a b : ℕ} → a ≤ 1 → b ≤ 1 → (0 < a → 0 < b) → (0 < b → 0 < a) → a ≡ b
       equal {a} {b} h k i j = elim (same-or-other a b) [
         | inl e ↦ e
@@ -258,9 +266,9 @@ module _ (n : Namespace) (mount : Mount) (s : Stands Nothing n) (may : MayLeave 
       (λ row i. elim (true-or-false (is_backed_by (lies_on_cell volume cell) (life_at n row))) [
         | inr k ↦ k
         | inl k ↦
-          let life = row-life n mount s may row i in
-          let on = on-cell volume cell life.0.backing (sym (ap (is_backed_by (lies_on_cell volume cell)) life.1) ∙ k) in
-          absurd (h (cell-kind-is life.0 volume cell mount.fs on (sym (ap fits_kind life.1) ∙ s.boxes.kinds row) (and-first (same_kind life.0.kind (kind_of mount.fs)) _ (own-fits row life.0 life.1 life.2))))
+            let life = row-life n mount s may row i in
+            let on = on-cell volume cell life.0.backing (sym (ap (is_backed_by (lies_on_cell volume cell)) life.1) ∙ k) in
+            absurd (h (cell-kind-is life.0 volume cell mount.fs on (sym (ap fits_kind life.1) ∙ s.boxes.kinds row) (and-first (same_kind life.0.kind (kind_of mount.fs)) _ (own-fits row life.0 life.1 life.2))))
       ])
 
   is-mounted : mount.fs ≡ fs.Cell → is_mounted n fs.Cell mount.source ≡ true
@@ -284,19 +292,19 @@ module _ (n : Namespace) (mount : Mount) (s : Stands Nothing n) (may : MayLeave 
       let spare = ap (λ xs. one_if (slice_index_or xs cell false)) (keep-spare n mount s may volume) in
       elim (same-or-other volume (volume_named n mount.source)) [
         | inr h ↦
-          let kept = ap (count_by (λ entry. is_kept_on cell entry.1)) (keep-other n mount s may volume h) in
-          let none = other-volume volume cell h in
-          omega (arith, placed, spare, kept, none)
+            let kept = ap (count_by (λ entry. is_kept_on cell entry.1)) (keep-other n mount s may volume h) in
+            let none = other-volume volume cell h in
+            omega (arith, placed, spare, kept, none)
         | inl h ↦
-          let own = subst (λ x. x < length n.volumes) h within in
-          let same : (volume_at (left_by n mount fs.Cell) volume).kept ≡ map (λ entry. (entry.0, kept_node n entry.1)) (tree_of n mount.number) =
-          ap (λ x. (volume_at (left_by n mount fs.Cell) x).kept) h ∙ keep-own n mount s may own in
-          let before : (volume_at n volume).kept ≡ [] = ap (λ x. (volume_at n x).kept) h ∙ own-kept e own in
-          let now = ap (count_by (λ entry. is_kept_on cell entry.1)) same in
-          let was : count_by (λ entry. is_kept_on cell entry.1) (volume_at n volume).kept ≡ 0 = ap (count_by (λ entry. is_kept_on cell entry.1)) before in
-          let counted = names-twice cell own (subst (λ x. cell < length (volume_at n x).pages) h inside) in
-          let rows = ap (λ x. twice n x cell (rows_of_mount n mount.number)) h in
-          omega (arith, placed, spare, now, was, counted, rows)
+            let own = subst (λ x. x < length n.volumes) h within in
+            let same : (volume_at (left_by n mount fs.Cell) volume).kept ≡ map (λ entry. (entry.0, kept_node n entry.1)) (tree_of n mount.number) =
+            ap (λ x. (volume_at (left_by n mount fs.Cell) x).kept) h ∙ keep-own n mount s may own in
+            let before : (volume_at n volume).kept ≡ [] = ap (λ x. (volume_at n x).kept) h ∙ own-kept e own in
+            let now = ap (count_by (λ entry. is_kept_on cell entry.1)) same in
+            let was : count_by (λ entry. is_kept_on cell entry.1) (volume_at n volume).kept ≡ 0 = ap (count_by (λ entry. is_kept_on cell entry.1)) before in
+            let counted = names-twice cell own (subst (λ x. cell < length (volume_at n x).pages) h inside) in
+            let rows = ap (λ x. twice n x cell (rows_of_mount n mount.number)) h in
+            omega (arith, placed, spare, now, was, counted, rows)
       ]
 
   devices-left : (f : FsType) → DevicesPlaced (left_by n mount f)

@@ -1,10 +1,9 @@
 -- A step of one file leaves the namespace as it was, so the world stays consistent where the file agrees.
-use Rattle.std.proofs.Common.{◌≡◌, ◌≢◌, ℕ, ◌-◌, ◌<◌, ◌≤◌, true, length, slice_index_or, slice_set, ◌⊎◌, inl, inr, refl, sym, ap, subst, ◌∙◌, arith}
-use Rattle.std.proofs.lemmas.Bool.Decides.{eqb_tells, leb_tells}
+use Rattle.std.proofs.Common.{◌≡◌, ◌≢◌, ℕ, ◌-◌, ◌<◌, ◌≤◌, true, length, slice_index_or, slice_set, ◌⊎◌, inl, inr, sym, ap, subst, ◌∙◌}
 use Rattle.std.proofs.lemmas.List.{get_or-set_other, get_or-set_same, length-set, set_past}
 use Rattle.vfs_base.specs.declared.entry.Mark.{Mark}
 use Rattle.vfs_base.specs.declared.step.Step.{Step}
-use Rattle.vfs_model.specs.Boxes.{CellsFit, HasSizes, IsConsistent, file_capacity}
+use Rattle.vfs_model.specs.Boxes.{CellsFit, IsConsistent, file_capacity}
 use Rattle.vfs_model.specs.Consistency.{agrees}
 use Rattle.vfs_model.specs.FileMoves.{file_step, fits_file}
 use Rattle.vfs_model.specs.Homes.{file_at, with_file}

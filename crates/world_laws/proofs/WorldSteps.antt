@@ -1,5 +1,5 @@
 -- Every step, and every list of steps, keeps the world consistent.
-use Rattle.std.proofs.Common.{◌≡◌, ◌≢◌, ℕ, zero, suc, ◌-◌, ◌*◌, ◌<◌, ◌≤◌, Bool, true, false, not, ◌&&◌, ◌||◌, ◌==◌, Option, Some, None, is_none, List, [], ◌∷◌, fold, length, map, slice_index_or, slice_set, ◌⊎◌, inl, inr, Result, Ok, Err, if◌then◌else◌, refl, sym, ap, subst, ◌∙◌, arith}
+use Rattle.std.proofs.Common.{◌≡◌, ℕ, zero, suc, ◌≤◌, Bool, true, false, not, Option, Some, None, is_none, List, [], ◌∷◌, fold, length, map, slice_index_or, inl, inr, if◌then◌else◌, refl, sym, subst, arith}
 use Rattle.vfs_base.specs.declared.entry.Mark.{Mark}
 use Rattle.vfs_base.specs.declared.entry.Who.{Who}
 use Rattle.vfs_base.specs.declared.entry.Who.TheVariants as who
@@ -8,11 +8,11 @@ use Rattle.vfs_base.specs.declared.reply.Reply.{Reply}
 use Rattle.vfs_base.specs.declared.step.Step.{Step}
 use Rattle.vfs_base.specs.declared.step.Step.TheVariants as step
 use Rattle.vfs_model.specs.Asking.{Asked, MayAsk, may_ask, may_ask_file, run_steps}
-use Rattle.vfs_model.specs.Boxes.{CellsFit, IsConsistent}
+use Rattle.vfs_model.specs.Boxes.{IsConsistent}
 use Rattle.vfs_model.specs.Consistency.{agrees}
 use Rattle.vfs_model.specs.FileLife.{backing_of, volume_named}
 use Rattle.vfs_model.specs.FileStep.{step_file}
-use Rattle.vfs_model.specs.Homes.{cell_bytes, cell_capacity, change_row, file_at, with_empty_cells}
+use Rattle.vfs_model.specs.Homes.{cell_bytes, change_row, file_at, with_empty_cells}
 use Rattle.vfs_model.specs.Namespace.{generation_at, life_at}
 use Rattle.vfs_model.specs.NamespaceOutcome.{NamespaceOutcome}
 use Rattle.vfs_model.specs.NamespaceStep.{is_shutdown, namespace_step}
@@ -25,7 +25,6 @@ use Rattle.vfs_model.specs.declared.world.Homes.{Homes}
 use Rattle.vfs_model.specs.declared.world.World.{World}
 use Rattle.world_laws.proofs.Agreeing.{Agrees}
 use Rattle.world_laws.proofs.Keeping.{Keeps}
-use Rattle.world_laws.proofs.Lists.{below-or-past, same-or-other, set-there}
 use Rattle.world_laws.proofs.Passing.{and-first, and-second}
 use Rattle.world_laws.proofs.Standing.{Nothing, Stands, consistent-of, stands-of}
 use Rattle.world_laws.proofs.StepKeeping.{Asks, namespace-kept}
@@ -115,6 +114,7 @@ asks w (who.Session k) asked numbered may none = inl (numbered, by (step_file as
     opposite : (b : Bool) → not b ≡ true → b ≡ false
     opposite true h = absurd (cc)
     opposite false h = refl
+
     by : (found : Option FileId) → step_file asked ≡ found → may_ask_file w.namespace k asked found ≡ true → is_shutdown asked ≡ false
     by None e h = opposite (is_shutdown asked) (and-second (is_none (step_row asked)) _ h)
     by (Some id) e h = absurd (no-file asked id e none)

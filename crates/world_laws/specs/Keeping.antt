@@ -1,5 +1,7 @@
 -- What a step keeps.
 use Rattle.std.specs.Prelude.{◌≡◌, ℕ, ◌<◌, true, List, [], ◌∷◌}
+use Rattle.vfs_base.specs.declared.deck.Deck.{Deck}
+use Rattle.vfs_base.specs.declared.describe.Describe.{Describe}
 use Rattle.vfs_base.specs.declared.entry.Mark.{Mark}
 use Rattle.vfs_base.specs.declared.entry.Who.{Who}
 use Rattle.vfs_base.specs.declared.entry.Who.TheVariants as who
@@ -8,6 +10,7 @@ use Rattle.vfs_model.specs.Asking.{Asked, MayAsk, run_steps}
 use Rattle.vfs_model.specs.Boxes.{IsConsistent}
 use Rattle.vfs_model.specs.FileMoves.{file_step, fits_file}
 use Rattle.vfs_model.specs.Homes.{file_at}
+use Rattle.vfs_model.specs.ScriptRun.{opening_state}
 use Rattle.vfs_model.specs.World.{FitsStep, file_part, world_step}
 use Rattle.vfs_model.specs.declared.world.World.{World}
 
@@ -15,6 +18,10 @@ use Rattle.vfs_model.specs.declared.world.World.{World}
 abbrev pub FileStepsKeepConsistency : Type 0
 FileStepsKeepConsistency = (w : World) (row : ℕ) (asked : Step) (m : Mark) → IsConsistent w →
     fits_file (file_at w row) asked m ≡ true → IsConsistent (file_part w row (file_step (file_at w row) asked m)).next
+
+-- the world at the start of every script is consistent, whatever devices there are
+abbrev pub OpeningIsConsistent : Type 0
+OpeningIsConsistent = (deck : Deck) (describe : Describe) → IsConsistent (opening_state deck describe).world
 
 -- sessions are numbered from 1
 abbrev pub HasNumber : Who → Type 0

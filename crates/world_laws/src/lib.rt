@@ -4,9 +4,24 @@
 //! docs/STEPS.md, "What holds between steps".
 #![tactic(auto)]
 
-ghost use Rattle.world_laws.specs.Keeping.{FileStepsKeepConsistency};
+ghost use Rattle.world_laws.specs.Keeping.{FileStepsKeepConsistency, OpeningIsConsistent, RunsKeepConsistency, StepsKeepConsistency};
+
+/// The world at the start of every script is consistent, whatever devices there are: the roms of a script are trees.
+pub fn opening_is_consistent()
+    ensures { OpeningIsConsistent }
+{}
 
 /// A step of one file, with a mark that fits, keeps the world consistent.
 pub fn file_steps_keep_consistency()
     ensures { FileStepsKeepConsistency }
+{}
+
+/// Every step that may be asked, with a mark that fits, keeps the world consistent.
+pub fn steps_keep_consistency()
+    ensures { StepsKeepConsistency }
+{}
+
+/// Steps that may be asked one after the other keep the world consistent.
+pub fn runs_keep_consistency()
+    ensures { RunsKeepConsistency }
 {}
