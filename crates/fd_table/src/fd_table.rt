@@ -126,9 +126,9 @@ impl FdTable {
         if !has_free(&self.descriptors) {
             return Err(FdFault::EMFILE);
         }
-        let place = first_free(&self.descriptors);
-        self.descriptors[place] = Some(number);
-        Ok(place as u64 + FIRST_DESCRIPTOR)
+        let free = first_free(&self.descriptors);
+        self.descriptors[free] = Some(number);
+        Ok(free as u64 + FIRST_DESCRIPTOR)
     }
 
     /// Gives the open file of a descriptor the place at an offset, and answers it.
