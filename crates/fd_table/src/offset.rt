@@ -1,0 +1,48 @@
+//! Places of open files, and offsets between them.
+
+ghost use Rattle.std.specs.Prelude.{◌≡◌, Ok, Err, IfOk, IfErr, ◌≤◌};
+ghost use Rattle.vfs_model.specs.OpenFiles.{moved_place, place_max, sought_place, whence_place};
+ghost use Rattle.fd_table.specs.FdFault.{errno_of};
+
+use crate::fd_fault::FdFault;
+use vfs_base::OFF_MAX;
+use vfs_model::{OpenFile, Whence};
+
+/// The greatest place of an open file: a write or a read of the greatest size may end a little
+/// behind the greatest offset that a seek leads to.
+pub const PLACE_MAX: u64 = 0x8000_0000_0010_0000;
+
+/// The place so many bytes on, where no place is behind `PLACE_MAX`.
+pub fn moved_place(place: u64, count: u64) -> u64
+    ensures value { result ≡ moved_place place count }
+    ensures bound { result ≤ place_max }
+{
+    place.saturating_add(count).min(PLACE_MAX)
+}
+
+// Where an offset is counted from.
+pub(crate) fn whence_place(file: &OpenFile, whence: Whence) -> u64
+    ensures { result ≡ whence_place file.now whence }
+{
+    match whence {
+        Whence::Set => 0,
+        Whence::Cur => file.place,
+        Whence::End { size } => size,
+    }
+}
+
+// The place at an offset from another one.
+pub(crate) fn sought_place(from: u64, off: i64) -> Result<u64, FdFault>
+    ensures ok { IfOk result (λ place. sought_place from off ≡ Ok place) }
+    ensures err { IfErr result (λ fault. sought_place from off ≡ Err (errno_of fault)) }
+    ensures bound { IfOk result (λ place. place ≤ place_max) }
+{
+    let place = from as i128 + off as i128;
+    if place < 0 {
+        return Err(FdFault::EINVAL);
+    }
+    if (OFF_MAX as i128) < place {
+        return Err(FdFault::EOVERFLOW);
+    }
+    Ok(place as u64)
+}
