@@ -1,0 +1,13 @@
+//! The steps of one file over its plain bytes, and what rows and homes become when files are bound
+//! and freed.
+//!
+//! A contract sees the plain data of `vfs_model` and compares with its definitions: `file_step`,
+//! `fits_file` and `change_row`. It has no page cache, and knows no path, mount or session.
+#![tactic(auto)]
+
+pub mod flat;
+mod moving;
+mod refusal;
+mod step;
+
+pub use step::{fits_file, step_file};
