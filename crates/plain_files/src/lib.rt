@@ -5,9 +5,15 @@
 //! `fits_file` and `change_row`. It has no page cache, and knows no path, mount or session.
 #![tactic(auto)]
 
+mod contents;
 pub mod flat;
+mod homes;
 mod moving;
 mod refusal;
+mod row;
 mod step;
 
+pub use contents::contents_of;
+pub use homes::{change_rows, empty_cells};
+pub use row::{fits_row, step_row};
 pub use step::{fits_file, step_file};
