@@ -1,56 +1,17 @@
-//! The bytes that changes of rows bring from roms, in memory of their own.
+//! The bytes that files begin with that are a rom's.
 
-ghost use Rattle.std.specs.Prelude.{◌≡◌, ◌∷◌, [], ◌++◌, IfOk, OnOk};
+ghost use Rattle.std.specs.Prelude.{◌≡◌};
 ghost use Rattle.std.specs.FinMap.Entries.{find as value_at};
 ghost use Rattle.std.specs.Option.{option_copied};
 ghost use Rattle.vfs_base.specs.Path.{path_cmp};
 ghost use Rattle.vfs_model.specs.Homes.{rom_node_bytes};
-ghost use Rattle.plain_files.specs.Contents.{origin_content, change_content, contents_of};
+ghost use Rattle.plain_files.specs.Contents.{origin_content};
 
-use std::alloc::Global;
-use vfs_base::{Bytes, List, NoMemory, Path, copy_bytes};
-use vfs_model::{Origin, RomImage, RomNode, RowChange};
+use vfs_base::Path;
+use vfs_model::{Origin, RomImage, RomNode};
 
-/// For each change the bytes that it brings from a rom: those of the file that it binds, if that is
-/// a rom's; else none.
-///
-/// They are made before a step changes anything, so that `change_rows` wants no memory.
-pub fn contents_of(
-    alloc: Global,
-    roms: &[RomImage],
-    changes: &[RowChange],
-) -> Result<List<Bytes>, NoMemory>
-    ensures { IfOk result (λ contents. contents ≡ contents_of roms.now changes.now) }
-{
-    let mut contents = List::new(alloc);
-    for change in changes {
-        push_content(&mut contents, alloc, roms, change)?;
-    }
-    Ok(contents)
-}
-
-fn push_content(
-    contents: &mut List<Bytes>,
-    alloc: Global,
-    roms: &[RomImage],
-    change: &RowChange,
-) -> Result<(), NoMemory>
-    ensures { OnOk result (contents.new ≡ contents.old ++ change_content roms.now change.now ∷ []) }
-{
-    let content = copy_bytes(alloc, change_content(roms, change))?;
-    contents.push(content)
-}
-
-fn change_content<'a>(roms: &'a [RomImage], change: &RowChange) -> &'a [u8]
-    ensures { result.now ≡ change_content roms.now change.now }
-{
-    match change {
-        RowChange::Bind { origin, .. } => origin_content(roms, origin),
-        RowChange::Free { .. } => &[],
-    }
-}
-
-fn origin_content<'a>(roms: &'a [RomImage], origin: &Origin) -> &'a [u8]
+/// The bytes that a file begins with, if they lie in a rom; else none.
+pub fn origin_content<'a>(roms: &'a [RomImage], origin: &Origin) -> &'a [u8]
     ensures { result.now ≡ origin_content roms.now origin.now }
 {
     match origin {

@@ -1,49 +1,43 @@
 //! What rows and homes become when files are bound and freed, and when a volume is formatted.
 
-ghost use Rattle.std.specs.Prelude.{◌≡◌, ◌-◌, [], fold, map, slice_index_or, slice_set};
+ghost use Rattle.std.specs.Prelude.{◌≡◌, ◌-◌, [], map, slice_index_or, slice_set};
 ghost use Rattle.vfs_model.specs.Homes.{bound_file, cell_capacity, change_row, homes_after_bind, homes_after_end, bytes_of, home_of, with_empty_cells};
 ghost use Rattle.vfs_model.specs.FileLife.{volume_at};
-ghost use Rattle.plain_files.specs.Contents.{origin_content, change_content, contents_of};
+ghost use Rattle.vfs_model.specs.declared.namespace.RowChange.TheVariants as change;
+ghost use Rattle.plain_files.specs.Contents.{origin_content};
 
 use crate::flat::{replace, set};
 use std::alloc::Global;
 use std::mem;
 use vfs_base::{Bytes, Kind, List, PAGE_SIZE, RowId, TMP_FILE_MAX};
-use vfs_model::{DeviceHome, End, FileState, Homes, Namespace, Origin, RowChange, World};
+use vfs_model::{DeviceHome, End, FileState, Homes, Namespace, Origin, World};
 
-/// Makes the changes of rows, in their order. The contents are those that the changes bring.
-pub fn change_rows(
+/// Binds the row to a file that begins so. The content is what lies in a rom of it, in memory of its
+/// own, so that binding wants none.
+pub fn bind_file(
     world: &mut World,
     alloc: Global,
-    changes: &[RowChange],
-    mut contents: List<Bytes>,
+    row: RowId,
+    generation: u64,
+    origin: &Origin,
+    content: Bytes,
 )
-    requires { contents ≡ contents_of world.old.namespace.roms changes.now }
-    ensures { world.new ≡ fold change_row world.old changes.now }
+    requires { content ≡ origin_content world.old.namespace.roms origin.now }
+    ensures { world.new ≡ change_row world.old
+        (change.Bind (record { row = row; generation = generation }) origin.now) }
 {
-    for place in 0..changes.len() {
-        let content = replace(&mut contents, alloc, place, Bytes::new(alloc));
-        change_row(world, alloc, &changes[place], content);
-    }
+    let bound = begin_file(world, alloc, generation, origin, content);
+    set(&mut world.files, alloc, place_of(row), bound);
 }
 
-fn change_row(world: &mut World, alloc: Global, change: &RowChange, content: Bytes)
-    requires { content ≡ change_content world.old.namespace.roms change.now }
-    ensures { world.new ≡ change_row world.old change.now }
+/// Frees the row. What stays of its file comes home.
+pub fn free_file(world: &mut World, alloc: Global, row: RowId, generation: u64, end: &End)
+    ensures { world.new ≡ change_row world.old
+        (change.Free (record { row = row; generation = generation }) end.now) }
 {
-    match change {
-        RowChange::Bind { file, origin } => {
-            let bound = begin_file(world, alloc, file.generation.number(), origin, content);
-            set(&mut world.files, alloc, place_of(file.row), bound);
-        }
-        RowChange::Free { file, end } => {
-            let freed = FileState::Unbound {
-                generation: file.generation.number(),
-            };
-            let ended = replace_file(&mut world.files, alloc, file.row, freed);
-            bring_home(&mut world.homes, alloc, ended, end);
-        }
-    }
+    let freed = FileState::Unbound { generation };
+    let ended = replace_file(&mut world.files, alloc, row, freed);
+    bring_home(&mut world.homes, alloc, ended, end);
 }
 
 // The place of a row's file among the files.

@@ -13,7 +13,7 @@ mod refusal;
 mod row;
 mod step;
 
-pub use contents::contents_of;
-pub use homes::{change_rows, empty_cells};
+pub use contents::origin_content;
+pub use homes::{bind_file, empty_cells, free_file};
 pub use row::{fits_row, step_row};
 pub use step::{fits_file, step_file};
