@@ -1,0 +1,5 @@
+pub mod Entries
+pub mod FreeRows
+pub mod Puts
+pub mod Sets
+pub mod Walks

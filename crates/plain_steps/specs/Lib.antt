@@ -1,0 +1,4 @@
+pub mod Changes
+pub mod Gives
+pub mod Puts
+pub mod Rows

@@ -1,0 +1,19 @@
+//! The steps of the file system over flat lists: the slow program whose contracts are the definitions.
+//!
+//! A contract sees the plain namespace and the plain world themselves, and says that each call
+//! answers and leaves what the definition of its step does. Nothing is indexed and nothing is
+//! cached. It knows no command, no script's lines and no threads.
+#![tactic(auto)]
+
+mod asking;
+mod changes;
+mod flat;
+mod lookup;
+mod naming;
+mod nodes;
+mod rows;
+mod stop;
+mod trees;
+
+pub use changes::Change;
+pub use stop::Stop;
