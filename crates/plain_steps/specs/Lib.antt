@@ -1,4 +1,7 @@
 pub mod Changes
 pub mod Gives
+pub mod Leaving
 pub mod Puts
 pub mod Rows
+pub mod Sizes
+pub mod Unmounting

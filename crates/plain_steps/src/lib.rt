@@ -8,12 +8,17 @@
 mod asking;
 mod changes;
 mod flat;
+mod formatting;
+mod leaving;
 mod lookup;
 mod naming;
 mod nodes;
 mod rows;
+mod sources;
 mod stop;
+mod tables;
 mod trees;
+mod unmounting;
 
 pub use changes::Change;
 pub use stop::Stop;
