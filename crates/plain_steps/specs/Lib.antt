@@ -1,4 +1,5 @@
 pub mod Changes
 pub mod Gives
+pub mod Listing
 pub mod Puts
 pub mod Rows

@@ -8,9 +8,13 @@
 mod asking;
 mod changes;
 mod flat;
+mod listing;
 mod lookup;
+mod moving;
 mod naming;
 mod nodes;
+mod opening;
+mod references;
 mod rows;
 mod stop;
 mod trees;
