@@ -1,7 +1,10 @@
 pub mod Entries
+pub mod Filters
 pub mod FreeRows
 pub mod Inserts
 pub mod Keeps
+pub mod Made
+pub mod Moves
 pub mod Puts
 pub mod Sets
 pub mod Unmounts

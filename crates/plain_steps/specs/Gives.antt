@@ -14,6 +14,11 @@ abbrev pub Gives : {X Y : Type 0} → (X → Y) → Result X Stop → Result Y E
 Gives view (Ok x) told = told ≡ Ok (view x)
 Gives view (Err e) told = StopsAs e told
 
+-- the same of what can only be refused
+abbrev pub Tells : {X Y : Type 0} → (X → Y) → Result X Errno → Result Y Errno → Type 0
+Tells view (Ok x) told = told ≡ Ok (view x)
+Tells view (Err errno) told = told ≡ Err errno
+
 -- the answer is what the definition tells
 abbrev pub is_itself : {X : Type 0} → X → X
 is_itself x = x

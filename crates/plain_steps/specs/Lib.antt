@@ -1,6 +1,7 @@
 pub mod Changes
 pub mod Gives
 pub mod Leaving
+pub mod Listing
 pub mod Puts
 pub mod Rows
 pub mod Sizes

@@ -1,6 +1,6 @@
 //! Lists at single places: what is read behind the end is absent, and what is put there is dropped.
 
-ghost use Rattle.std.specs.Prelude.{◌≡◌, slice_index_or, slice_set, IfOk};
+ghost use Rattle.std.specs.Prelude.{◌≡◌, slice_index_or, slice_set, ◌++◌, IfOk, OnOk};
 
 use std::alloc::Global;
 use std::mem;
@@ -40,8 +40,24 @@ pub fn path_of(alloc: Global, names: &[Name]) -> Result<Path, NoMemory>
     ensures { IfOk result (λ path. path ≡ names.now) }
 {
     let mut path = Path::root(alloc);
+    push_names(&mut path, names)?;
+    Ok(path)
+}
+
+/// The path of the names of a front and of a rest behind it.
+pub fn joined_path(alloc: Global, front: &[Name], rest: &[Name]) -> Result<Path, NoMemory>
+    ensures { IfOk result (λ path. path ≡ front.now ++ rest.now) }
+{
+    let mut path = path_of(alloc, front)?;
+    push_names(&mut path, rest)?;
+    Ok(path)
+}
+
+fn push_names(path: &mut Path, names: &[Name]) -> Result<(), NoMemory>
+    ensures { OnOk result (path.new ≡ path.old ++ names.now) }
+{
     for name in names {
         path.push(name.copy()?)?;
     }
-    Ok(path)
+    Ok(())
 }

@@ -1,4 +1,4 @@
-ghost use Rattle.std.specs.Prelude.{◌≡◌};
+ghost use Rattle.std.specs.Prelude.{◌≡◌, false, OnOk};
 ghost use Rattle.vfs_model.specs.Chain.{refuse◌when◌, refuse_by};
 ghost use Rattle.plain_steps.specs.declared.stop.Stop.TheVariants.{NoMemory as no_memory, Refusal as refusal};
 
@@ -34,7 +34,8 @@ impl From<Errno> for Stop {
 
 /// Refuses the step with the error where the test holds.
 pub fn refuse_when(errno: Errno, test: bool) -> Result<(), Errno>
-    ensures { result ≡ (refuse errno when test) }
+    ensures value { result ≡ (refuse errno when test) }
+    ensures passed { OnOk result (test ≡ false) }
 {
     if test {
         return Err(errno);
