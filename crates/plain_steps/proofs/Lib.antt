@@ -1,3 +1,4 @@
+pub mod Binds
 pub mod Entries
 pub mod Filters
 pub mod FreeRows

@@ -2,6 +2,7 @@ pub mod Changes
 pub mod Gives
 pub mod Leaving
 pub mod Listing
+pub mod Mounting
 pub mod Puts
 pub mod Rows
 pub mod Sizes

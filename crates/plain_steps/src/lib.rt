@@ -6,12 +6,15 @@
 #![tactic(auto)]
 
 mod asking;
+mod binding;
 mod changes;
+mod content;
 mod flat;
 mod formatting;
 mod leaving;
 mod listing;
 mod lookup;
+mod mounting;
 mod moving;
 mod naming;
 mod nodes;

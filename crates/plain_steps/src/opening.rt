@@ -242,7 +242,7 @@ fn make_file(namespace: &mut Namespace, alloc: Global, path: &[Name]) -> Result<
     })
 }
 
-fn file_of(row: RowId, generation: u64) -> FileId
+pub fn file_of(row: RowId, generation: u64) -> FileId
     requires { 1 ≤ generation }
     ensures { result ≡ record { row = row; generation = generation } }
 {

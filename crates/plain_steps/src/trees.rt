@@ -1,6 +1,6 @@
 //! Trees: what stands at each path of one file system.
 
-ghost use Rattle.std.specs.Prelude.{◌≡◌, ◌≤◌, ◌++◌, true, not, length, take, drop, filter, OnOk, OnErr};
+ghost use Rattle.std.specs.Prelude.{◌≡◌, ◌+◌, ◌<◌, ◌≤◌, ◌++◌, vec_len, vec_capacity, true, not, length, take, drop, filter, OnOk, OnErr};
 ghost use Rattle.std.specs.List.{list_any};
 ghost use Rattle.std.specs.Option.{option_copied};
 ghost use Rattle.std.specs.FinMap.Entries.{find as value_at, put};
@@ -93,6 +93,23 @@ fn put_item<V: Drop>(items: &mut Vec<(Path, V)>, path: Path, value: V) -> Result
     }
     items.insert(place, (path, value))?;
     Ok(())
+}
+
+/// Puts a value at the path into entries in the order of paths, which have room for one more.
+#[tactic(auto, using(crate::proofs::Puts::put_as_insert, crate::proofs::Puts::put_as_set))]
+pub fn put_reserved<V: Drop>(items: &mut Vec<(Path, V)>, path: Path, value: V)
+    requires { vec_len items.old < vec_capacity items.old }
+    ensures items { items.new.items ≡ put path_cmp path value items.old.items }
+    ensures len { vec_len items.new ≤ vec_len items.old + 1 }
+    ensures capacity { vec_capacity items.old ≤ vec_capacity items.new }
+{
+    let place = place_of(&path, items.as_slice());
+    if is_at(&path, items.as_slice(), place) {
+        items[place] = (path, value);
+        return;
+    }
+    let inserted = items.insert(place, (path, value));
+    prove!(inserted.is_ok());
 }
 
 // The number of entries that come before the path.
