@@ -6,7 +6,9 @@ pub mod Inserts
 pub mod Keeps
 pub mod Made
 pub mod Moves
+pub mod Numbers
 pub mod Puts
 pub mod Sets
+pub mod Starts
 pub mod Unmounts
 pub mod Walks

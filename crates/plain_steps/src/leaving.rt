@@ -269,7 +269,7 @@ fn kept_names(
 }
 
 // Gives the volume at this place other names to keep.
-fn set_kept(
+pub fn set_kept(
     volumes: &mut List<VolumeState>,
     alloc: Global,
     volume: usize,

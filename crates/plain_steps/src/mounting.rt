@@ -4,7 +4,7 @@ ghost use Rattle.std.specs.Prelude.{◌≡◌, ◌==◌, ◌&&◌, ◌||◌, ◌
 ghost use Rattle.std.specs.List.{list_any};
 ghost use Rattle.vfs_base.specs.declared.kinds.FsType.TheVariants as fs_type;
 ghost use Rattle.vfs_base.specs.declared.reply.Reply.TheVariants as reply;
-ghost use Rattle.vfs_model.specs.Content.{content_of, same_type};
+ghost use Rattle.vfs_model.specs.Content.{content_of, file_count, same_type};
 ghost use Rattle.vfs_model.specs.FileLife.{is_free_row};
 ghost use Rattle.vfs_model.specs.Lookup.{has_folder_within, has_mount_below, is_point, with_tree};
 ghost use Rattle.vfs_model.specs.MountStep.{add_mount, is_taken, is_without_source, least_free_mount, mount_at, mount_refusals, mount_step, without_kept};
@@ -19,7 +19,7 @@ use crate::asking::asked_path;
 use crate::binding::add_entries;
 use crate::changes::Change;
 use crate::content::{Content, content_of, file_count, fs_type_of};
-use crate::flat;
+use crate::leaving::set_kept;
 use crate::lookup::{
     has_folder_within, has_mount_below, has_nodes, is_file, is_point, is_there, walk_refusal,
 };
@@ -151,4 +151,187 @@ fn is_source_missing(namespace: &Namespace, fs: FsType, source: &[u8]) -> bool
 {
     is_without_source(namespace, fs, source)
         || (same_type(fs, FsType::Cell) && namespace.is_stopped)
+}
+
+// The least number that no mount has.
+#[tactic(auto, using(crate::proofs::Numbers::least_is_number))]
+fn least_free_mount(namespace: &Namespace) -> MountId
+    requires { length namespace.now.mounts ≤ 14 }
+    ensures { result ≡ least_free_mount namespace.now }
+{
+    let Some(number) = MountId::new(least_free_number(namespace)) else {
+        unreachable!();
+    };
+    number
+}
+
+#[tactic(auto, using(crate::proofs::Numbers::number_passed))]
+fn least_free_number(namespace: &Namespace) -> u8
+    ensures { result ≡ least_free_mount namespace.now }
+{
+    for number in 0..16 {
+        if !has_number(namespace, number) {
+            return number;
+        }
+    }
+    16
+}
+
+fn has_number(namespace: &Namespace, number: u8) -> bool
+    ensures { result ≡ list_any (λ mount. mount.number == number) (all_mounts namespace.now) }
+{
+    namespace.root.number.number() == number
+        || has_mount_numbered(namespace.mounts.as_slice(), number)
+}
+
+fn has_mount_numbered(mounts: &[Mount], number: u8) -> bool
+    ensures { result ≡ list_any (λ mount. mount.number == number) mounts.now }
+{
+    mounts.iter().any(|mount| mount.number.number() == number)
+}
+
+/// Mounts a file system of the type that `fs` names on the empty folder at the point.
+pub fn mount(
+    namespace: &mut Namespace,
+    alloc: Global,
+    session: SessionId,
+    source: &Bytes,
+    point: &Bytes,
+    fs: &Bytes,
+) -> Result<List<Change>, Stop>
+    requires { IsSized namespace.old }
+    ensures told { Gives (λ changes. record { reply = reply.Done; next = namespace.new; changes = map row_change changes }) result (mount_step namespace.old session source.now point.now fs.now) }
+    ensures err { OnErr result (namespace.new ≡ namespace.old) }
+{
+    let path = asked_path(namespace, alloc, session, point)?;
+    let Some(fs) = fs_type_of(fs.as_slice()) else {
+        return Err(Stop::Refusal(Errno::ENODEV));
+    };
+    mount_at(namespace, alloc, path, fs, source)
+}
+
+#[tactic(auto, using(crate::proofs::Starts::mounts_left, crate::proofs::Starts::rows_left), unfolding(vfs_model::specs::MountStep::mount_at))]
+fn mount_at(
+    namespace: &mut Namespace,
+    alloc: Global,
+    path: Path,
+    fs: FsType,
+    source: &Bytes,
+) -> Result<List<Change>, Stop>
+    requires { IsSized namespace.old }
+    ensures told { Gives (λ changes. record { reply = reply.Done; next = namespace.new; changes = map row_change changes }) result (mount_at namespace.old path fs source.now) }
+    ensures err { OnErr result (namespace.new ≡ namespace.old) }
+{
+    let content = content_of(namespace, alloc, fs, source.as_slice())?;
+    mount_refusals(namespace, path.as_names(), fs, source.as_slice(), &content)?;
+    let mount = make_mount(namespace, path, fs, source)?;
+    Ok(add_mount(namespace, alloc, &mount, content)?)
+}
+
+fn make_mount(
+    namespace: &Namespace,
+    point: Path,
+    fs: FsType,
+    source: &Bytes,
+) -> Result<Mount, NoMemory>
+    requires { length namespace.now.mounts ≤ 14 }
+    ensures { IfOk result (λ mount. mount ≡ record { number = least_free_mount namespace.now; point = point; fs = fs; source = source.now }) }
+{
+    Ok(Mount {
+        number: least_free_mount(namespace),
+        point,
+        fs,
+        source: source.clone()?,
+    })
+}
+
+/// The mount stands, and each file that it begins with has a row.
+#[tactic(auto, using(crate::proofs::Starts::start_is, crate::proofs::Starts::lives_at_start, crate::proofs::Starts::generations_at_start), unfolding(vfs_model::specs::MountStep::add_mount))]
+fn add_mount(
+    namespace: &mut Namespace,
+    alloc: Global,
+    mount: &Mount,
+    content: Content,
+) -> Result<List<Change>, NoMemory>
+    requires sized { IsSized namespace.old }
+    requires content { content ≡ content_of namespace.old mount.now.fs mount.now.source }
+    requires free { file_count content ≤ free_count namespace.old }
+    ensures ok { IfOk result (λ changes. add_mount namespace.old mount.now ≡ record { next = namespace.new; changes = map row_change changes }) }
+    ensures err { OnErr result (namespace.new ≡ namespace.old) }
+{
+    let mut changes = room_for(alloc, content.len())?;
+    let mut tree = begin_mount(namespace, alloc, mount, content.len())?;
+    add_entries(namespace, alloc, mount, content, &mut tree, &mut changes);
+    set_tree(namespace, alloc, mount.number, List::from_vec(tree));
+    Ok(List::from_vec(changes))
+}
+
+fn room_for(alloc: Global, count: usize) -> Result<Vec<Change>, NoMemory>
+    ensures empty { IfOk result (λ changes. changes.items ≡ []) }
+    ensures room { IfOk result (λ changes. vec_len changes + count ≤ vec_capacity changes) }
+{
+    Ok(Vec::with_capacity(alloc, count)?)
+}
+
+// The mount stands among the others. Its tree is taken out, with room for so many nodes more.
+#[tactic(auto, using(crate::proofs::Sets::set_again, crate::proofs::Sets::set_back, crate::proofs::Starts::begun_so))]
+fn begin_mount(
+    namespace: &mut Namespace,
+    alloc: Global,
+    mount: &Mount,
+    more: usize,
+) -> Result<Vec<(Path, NodeKind)>, NoMemory>
+    ensures next { OnOk result (namespace.new ≡ with_tree (with_mount namespace.old mount.now) mount.now.number []) }
+    ensures tree { IfOk result (λ tree. tree.items ≡ tree_of namespace.old mount.now.number) }
+    ensures room { IfOk result (λ tree. vec_len tree + more ≤ vec_capacity tree) }
+    ensures err { OnErr result (namespace.new ≡ namespace.old) }
+{
+    let copy = copy_mount(mount)?;
+    let mut tree = take_tree(namespace, alloc, mount.number).into_vec();
+    let pushed = push_mount(&mut namespace.mounts, &mut tree, more, copy);
+    if pushed.is_err() {
+        set_tree(namespace, alloc, mount.number, List::from_vec(tree));
+        return Err(NoMemory);
+    }
+    forget_kept(namespace, alloc, mount);
+    Ok(tree)
+}
+
+fn copy_mount(mount: &Mount) -> Result<Mount, NoMemory>
+    ensures { IfOk result (λ copy. copy ≡ mount.now) }
+{
+    Ok(Mount {
+        number: mount.number,
+        point: mount.point.copy()?,
+        fs: mount.fs,
+        source: mount.source.clone()?,
+    })
+}
+
+fn push_mount(
+    mounts: &mut List<Mount>,
+    tree: &mut Vec<(Path, NodeKind)>,
+    more: usize,
+    mount: Mount,
+) -> Result<(), NoMemory>
+    ensures ok { OnOk result (mounts.new ≡ mounts.old ++ mount ∷ []) }
+    ensures room { OnOk result (vec_len tree.new + more ≤ vec_capacity tree.new) }
+    ensures tree { tree.new.items ≡ tree.old.items }
+    ensures err { OnErr result (mounts.new ≡ mounts.old) }
+{
+    tree.reserve(more)?;
+    mounts.push(mount)
+}
+
+// A volume that is mounted keeps no names of its own.
+fn forget_kept(namespace: &mut Namespace, alloc: Global, mount: &Mount)
+    ensures { namespace.new ≡ without_kept namespace.old mount.now.fs mount.now.source }
+{
+    match mount.fs {
+        FsType::Cell => {
+            let volume = volume_named(namespace, mount.source.as_slice());
+            set_kept(&mut namespace.volumes, alloc, volume, List::new(alloc));
+        }
+        FsType::Tmp | FsType::Rom | FsType::Dev => {}
+    }
 }
