@@ -1,3 +1,4 @@
+pub mod Contents
 pub mod Entries
 pub mod Filters
 pub mod FreeRows
@@ -5,4 +6,5 @@ pub mod Made
 pub mod Moves
 pub mod Puts
 pub mod Sets
+pub mod Sized
 pub mod Walks

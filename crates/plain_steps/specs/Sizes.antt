@@ -1,0 +1,16 @@
+-- How many items the lists of a namespace have.
+use Rattle.std.specs.Prelude.{◌≡◌, ℕ, ◌≤◌, length}
+use Rattle.vfs_model.specs.FileLife.{volume_at}
+use Rattle.vfs_model.specs.Namespace.{tree_of}
+use Rattle.vfs_model.specs.declared.namespace.Namespace.{Namespace}
+
+-- what code needs to number and to count what a namespace has
+pub record IsSized (n : Namespace) : Type 0 where
+  pub lives : length n.lives ≡ 1024
+  pub generations : length n.generations ≡ 1024
+  pub references : length n.references ≤ 256
+  pub folders : length n.folders ≤ 8
+  pub mounts : length n.mounts ≤ 15
+  pub places : length n.trees ≡ 16
+  pub trees : (number : ℕ) → length (tree_of n number) ≤ 4096
+  pub spares : (volume : ℕ) → length (volume_at n volume).spare ≤ 1024
