@@ -2,9 +2,12 @@ pub mod Contents
 pub mod Entries
 pub mod Filters
 pub mod FreeRows
+pub mod Inserts
+pub mod Keeps
 pub mod Made
 pub mod Moves
 pub mod Puts
 pub mod Sets
 pub mod Sized
+pub mod Unmounts
 pub mod Walks

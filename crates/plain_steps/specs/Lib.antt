@@ -1,7 +1,9 @@
 pub mod Changes
 pub mod Gives
+pub mod Leaving
 pub mod Listing
 pub mod Puts
 pub mod Rows
 pub mod Sizes
+pub mod Unmounting
 pub mod WorldAnswer
