@@ -1,4 +1,5 @@
 pub mod Binds
+pub mod Contents
 pub mod Entries
 pub mod Filters
 pub mod FreeRows
@@ -9,6 +10,7 @@ pub mod Moves
 pub mod Numbers
 pub mod Puts
 pub mod Sets
+pub mod Sized
 pub mod Starts
 pub mod Unmounts
 pub mod Walks

@@ -1,5 +1,5 @@
 -- An unmount: first the mount that it takes, and then how that goes.
-use Rattle.std.proofs.Common.{◌≡◌, ℕ, ◌≤◌, Bool, true, false, List, [], ◌∷◌, ◌++◌, map, reverse, length, refl, ap, sym, subst, ◌∙◌, arith}
+use Rattle.std.proofs.Common.{◌≡◌, ℕ, ◌≤◌, Bool, true, false, List, [], ◌∷◌, ◌++◌, map, reverse, length, refl, ap, sym, ◌∙◌, arith}
 use Rattle.std.specs.Prelude.{Result, Ok, Err, is_ok, Option, Some, None}
 use Rattle.std.proofs.lemmas.List.{map-append, reverse-append}
 use Rattle.vfs_base.specs.Path.{AllAre, Path}

@@ -1,5 +1,5 @@
 -- Mounts that leave, and the rows that they free.
-use Rattle.std.specs.Prelude.{ℕ, ◌+◌, ◌≤◌, Option, List, map, filter, length, count_by, is_some}
+use Rattle.std.specs.Prelude.{ℕ, ◌≤◌, Option, List, map, filter, length, count_by, is_some}
 use Rattle.std.specs.List.{enumerate_from}
 use Rattle.vfs_model.specs.FileLife.{Rows}
 use Rattle.vfs_model.specs.Namespace.{tree_of}

@@ -7,3 +7,4 @@ pub mod Puts
 pub mod Rows
 pub mod Sizes
 pub mod Unmounting
+pub mod WorldAnswer

@@ -5,6 +5,7 @@
 //! cached. It knows no command, no script's lines and no threads.
 #![tactic(auto)]
 
+mod applying;
 mod asking;
 mod binding;
 mod changes;
@@ -21,6 +22,7 @@ mod nodes;
 mod opening;
 mod references;
 mod rows;
+mod session_steps;
 mod sources;
 mod stop;
 mod tables;

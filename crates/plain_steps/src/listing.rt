@@ -6,6 +6,7 @@ ghost use Rattle.vfs_model.specs.NameSteps.{chdir_step, cwd_step, entries_at, fo
 ghost use Rattle.vfs_model.specs.Namespace.{folder_of, with_folder_of};
 ghost use Rattle.plain_steps.specs.Gives.{Gives};
 ghost use Rattle.plain_steps.specs.Listing.{entries_in};
+ghost use Rattle.plain_steps.specs.Sizes.{IsSized};
 
 use crate::asking::asked_path;
 use crate::flat;
@@ -104,6 +105,7 @@ pub fn chdir(
 ) -> Result<Path, Stop>
     ensures told { Gives (λ at. record { reply = reply.At at; next = namespace.new; changes = [] }) result (chdir_step namespace.old session path.now) }
     ensures err { OnErr result (namespace.new ≡ namespace.old) }
+    ensures sized { IsSized namespace.old → IsSized namespace.new }
 {
     let path = asked_path(namespace, alloc, session, path)?;
     folder_refusals(namespace, path.as_names())?;
@@ -114,14 +116,17 @@ pub fn chdir(
 
 /// Makes `/` the session's working directory.
 pub fn home(namespace: &mut Namespace, alloc: Global, session: SessionId)
-    ensures { home_step namespace.old session
+    ensures told { home_step namespace.old session
         ≡ Ok (record { reply = reply.Done; next = namespace.new; changes = [] }) }
+    ensures sized { IsSized namespace.old → IsSized namespace.new }
 {
     set_folder(namespace, alloc, session, Path::root(alloc));
 }
 
+#[tactic(auto, using(crate::proofs::Sized::sized_folder))]
 fn set_folder(namespace: &mut Namespace, alloc: Global, session: SessionId, path: Path)
-    ensures { namespace.new ≡ with_folder_of namespace.old session path }
+    ensures next { namespace.new ≡ with_folder_of namespace.old session path }
+    ensures sized { IsSized namespace.old → IsSized namespace.new }
 {
     let place = session.number() as usize - 1;
     flat::set(&mut namespace.folders, alloc, place, path);

@@ -1,11 +1,12 @@
 //! Moving a file, or a folder with all below it.
 
-ghost use Rattle.std.specs.Prelude.{◌≡◌, ◌==◌, ◌∷◌, ◌++◌, [], fold, IfOk, OnOk, OnErr};
+ghost use Rattle.std.specs.Prelude.{◌≡◌, ◌==◌, ◌∷◌, ◌++◌, [], fold, true, IfOk, OnOk, OnErr};
 ghost use Rattle.vfs_base.specs.declared.reply.Reply.TheVariants as reply;
 ghost use Rattle.vfs_model.specs.Lookup.{covering_mount};
 ghost use Rattle.vfs_model.specs.RenameStep.{carried, left_behind, move_refusals, moved, put_entry, rename_refusals, rename_step, with_moved};
-ghost use Rattle.plain_steps.specs.Changes.{row_changes};
+ghost use Rattle.plain_steps.specs.Changes.{brings_nothing, row_changes};
 ghost use Rattle.plain_steps.specs.Gives.{Gives};
+ghost use Rattle.plain_steps.specs.Sizes.{IsSized};
 
 use crate::asking::asked_path;
 use crate::changes::Change;
@@ -33,7 +34,9 @@ pub fn rename(
     new: &Bytes,
 ) -> Result<Option<Change>, Stop>
     ensures told { Gives (λ change. record { reply = reply.Done; next = namespace.new; changes = row_changes change }) result (rename_step namespace.old session old.now new.now) }
+    ensures plain { IfOk result (λ change. brings_nothing change ≡ true) }
     ensures err { OnErr result (namespace.new ≡ namespace.old) }
+    ensures sized { IsSized namespace.old → IsSized namespace.new }
 {
     let old = asked_path(namespace, alloc, session, old)?;
     let new = asked_path(namespace, alloc, session, new)?;
@@ -93,7 +96,7 @@ fn move_refusals(namespace: &Namespace, old: &[Name], new: &[Name]) -> Result<()
     refuse_when(Errno::EBUSY, is_working_directory(namespace, new))
 }
 
-#[tactic(auto, unfolding(vfs_model::specs::RenameStep::with_moved))]
+#[tactic(auto, using(crate::proofs::Sized::sized_moved), unfolding(vfs_model::specs::RenameStep::with_moved))]
 fn move_nodes(
     namespace: &mut Namespace,
     alloc: Global,
@@ -102,6 +105,7 @@ fn move_nodes(
 ) -> Result<(), NoMemory>
     ensures ok { OnOk result (namespace.new ≡ with_moved namespace.old old.now new.now) }
     ensures err { OnErr result (namespace.new ≡ namespace.old) }
+    ensures sized { IsSized namespace.old → IsSized namespace.new }
 {
     let number = covering_mount(namespace, old).number;
     let old = rest_of(namespace, old);

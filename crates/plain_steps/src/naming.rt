@@ -1,11 +1,13 @@
 //! Making and removing names, and looking at them.
 
-ghost use Rattle.std.specs.Prelude.{◌≡◌, [], OnErr};
+ghost use Rattle.std.specs.Prelude.{◌≡◌, [], false, true, IfOk, OnOk, OnErr};
 ghost use Rattle.vfs_base.specs.declared.kinds.NodeKind.TheVariants as node;
 ghost use Rattle.vfs_base.specs.declared.reply.Reply.TheVariants as reply;
+ghost use Rattle.vfs_model.specs.Lookup.{is_full};
 ghost use Rattle.vfs_model.specs.NameSteps.{after_loss, mkdir_refusals, mkdir_step, rmdir_refusals, rmdir_step, stat_step, unlink_refusals, unlink_step};
-ghost use Rattle.plain_steps.specs.Changes.{row_changes};
+ghost use Rattle.plain_steps.specs.Changes.{brings_nothing, row_changes};
 ghost use Rattle.plain_steps.specs.Gives.{Gives};
+ghost use Rattle.plain_steps.specs.Sizes.{IsSized};
 
 use crate::asking::asked_path;
 use crate::changes::Change;
@@ -43,6 +45,7 @@ pub fn mkdir(
 ) -> Result<(), Stop>
     ensures told { Gives (λ _. record { reply = reply.Done; next = namespace.new; changes = [] }) result (mkdir_step namespace.old session path.now) }
     ensures err { OnErr result (namespace.new ≡ namespace.old) }
+    ensures sized { IsSized namespace.old → IsSized namespace.new }
 {
     let path = asked_path(namespace, alloc, session, path)?;
     mkdir_refusals(namespace, path.as_names())?;
@@ -52,7 +55,8 @@ pub fn mkdir(
 
 #[tactic(auto, unfolding(vfs_model::specs::NameSteps::mkdir_refusals))]
 fn mkdir_refusals(namespace: &Namespace, path: &[Name]) -> Result<(), Errno>
-    ensures { result ≡ mkdir_refusals namespace.now path.now }
+    ensures value { result ≡ mkdir_refusals namespace.now path.now }
+    ensures room { OnOk result (is_full namespace.now path.now ≡ false) }
 {
     refuse_by(walk_refusal(namespace, path))?;
     refuse_when(Errno::EEXIST, is_there(namespace, path))?;
@@ -69,6 +73,7 @@ pub fn rmdir(
 ) -> Result<(), Stop>
     ensures told { Gives (λ _. record { reply = reply.Done; next = namespace.new; changes = [] }) result (rmdir_step namespace.old session path.now) }
     ensures err { OnErr result (namespace.new ≡ namespace.old) }
+    ensures sized { IsSized namespace.old → IsSized namespace.new }
 {
     let path = asked_path(namespace, alloc, session, path)?;
     rmdir_refusals(namespace, path.as_names())?;
@@ -98,7 +103,9 @@ pub fn unlink(
     path: &Bytes,
 ) -> Result<Option<Change>, Stop>
     ensures told { Gives (λ change. record { reply = reply.Done; next = namespace.new; changes = row_changes change }) result (unlink_step namespace.old session path.now) }
+    ensures plain { IfOk result (λ change. brings_nothing change ≡ true) }
     ensures err { OnErr result (namespace.new ≡ namespace.old) }
+    ensures sized { IsSized namespace.old → IsSized namespace.new }
 {
     let path = asked_path(namespace, alloc, session, path)?;
     unlink_refusals(namespace, path.as_names())?;
@@ -119,7 +126,10 @@ fn unlink_refusals(namespace: &Namespace, path: &[Name]) -> Result<(), Errno>
 
 /// Frees the row of a file that has lost its place, unless the file is linked or held.
 pub fn free_lost(namespace: &mut Namespace, alloc: Global, node: Option<NodeKind>) -> Option<Change>
-    ensures { after_loss namespace.old node ≡ record { next = namespace.new; changes = row_changes result } }
+    ensures next { after_loss namespace.old node
+        ≡ record { next = namespace.new; changes = row_changes result } }
+    ensures plain { brings_nothing result ≡ true }
+    ensures sized { IsSized namespace.old → IsSized namespace.new }
 {
     match node {
         Some(NodeKind::File { file, .. }) => free_if_unused(namespace, alloc, file.row),

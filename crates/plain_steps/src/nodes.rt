@@ -1,11 +1,12 @@
 //! Nodes of the namespace that are put, taken away and moved.
 
-ghost use Rattle.std.specs.Prelude.{◌≡◌, [], slice_index_or, slice_set, OnOk, OnErr};
+ghost use Rattle.std.specs.Prelude.{◌≡◌, [], false, filter, not, slice_index_or, slice_set, OnOk, OnErr};
 ghost use Rattle.std.specs.FinMap.Entries.{put};
 ghost use Rattle.vfs_base.specs.Path.{path_cmp};
-ghost use Rattle.vfs_model.specs.Lookup.{with_node, with_tree};
+ghost use Rattle.vfs_model.specs.Lookup.{is_full, with_node, with_tree};
 ghost use Rattle.vfs_model.specs.NameSteps.{without_node};
-ghost use Rattle.vfs_model.specs.Namespace.{tree_of};
+ghost use Rattle.vfs_model.specs.Namespace.{same_path, tree_of};
+ghost use Rattle.plain_steps.specs.Sizes.{IsSized};
 
 use crate::flat;
 use crate::lookup::{covering_mount, rest_of};
@@ -50,7 +51,7 @@ pub fn put_in_tree(
 }
 
 /// Puts a node at the path.
-#[tactic(auto, unfolding(vfs_model::specs::Lookup::with_node))]
+#[tactic(auto, using(crate::proofs::Sized::sized_put), unfolding(vfs_model::specs::Lookup::with_node))]
 pub fn put_node(
     namespace: &mut Namespace,
     alloc: Global,
@@ -59,20 +60,32 @@ pub fn put_node(
 ) -> Result<(), NoMemory>
     ensures ok { OnOk result (namespace.new ≡ with_node namespace.old path.now node) }
     ensures err { OnErr result (namespace.new ≡ namespace.old) }
+    ensures sized { IsSized namespace.old → is_full namespace.old path.now ≡ false → IsSized namespace.new }
 {
     let number = covering_mount(namespace, path).number;
     let rest = flat::path_of(alloc, rest_of(namespace, path))?;
     put_in_tree(namespace, alloc, number, rest, node)
 }
 
+// Takes the node at the path out of the tree of the mount with this number.
+#[tactic(auto, using(crate::proofs::Sets::set_again))]
+fn remove_in_tree(namespace: &mut Namespace, alloc: Global, number: MountId, path: &[Name])
+    ensures next { namespace.new ≡ with_tree namespace.old number
+        (filter (λ entry. not (same_path entry.0 path.now)) (tree_of namespace.old number)) }
+    ensures sized { IsSized namespace.old → IsSized namespace.new }
+{
+    let mut tree = take_tree(namespace, alloc, number);
+    remove_entry(&mut tree, alloc, path);
+    set_tree(namespace, alloc, number, tree);
+}
+
 /// Takes the node at the path away.
-#[tactic(auto, using(crate::proofs::Sets::set_again), unfolding(vfs_model::specs::NameSteps::without_node))]
+#[tactic(auto, unfolding(vfs_model::specs::NameSteps::without_node))]
 pub fn remove_node(namespace: &mut Namespace, alloc: Global, path: &[Name])
-    ensures { namespace.new ≡ without_node namespace.old path.now }
+    ensures next { namespace.new ≡ without_node namespace.old path.now }
+    ensures sized { IsSized namespace.old → IsSized namespace.new }
 {
     let number = covering_mount(namespace, path).number;
     let rest = rest_of(namespace, path);
-    let mut tree = take_tree(namespace, alloc, number);
-    remove_entry(&mut tree, alloc, rest);
-    set_tree(namespace, alloc, number, tree);
+    remove_in_tree(namespace, alloc, number, rest);
 }

@@ -1,14 +1,14 @@
 //! Opening files, and making them.
 
-ghost use Rattle.std.specs.Prelude.{◌≡◌, ◌≤◌, ◌<◌, ◌∷◌, ◌&&◌, ◌||◌, [], Some, not, false, length, IfOk, OnOk, OnErr};
+ghost use Rattle.std.specs.Prelude.{◌≡◌, true, ◌≤◌, ◌<◌, ◌∷◌, ◌&&◌, ◌||◌, [], Some, not, false, length, IfOk, OnOk, OnErr};
 ghost use Rattle.std.specs.List.{position_or_len};
 ghost use Rattle.vfs_model.specs.FileLife.{volume_at, volume_named};
 ghost use Rattle.vfs_model.specs.Lookup.{covering_mount, is_file, is_read_only, is_there, node_at};
 ghost use Rattle.vfs_model.specs.Namespace.{with_reference};
 ghost use Rattle.vfs_model.specs.OpenStep.{creates, least_free_number, open_at, for_reading, for_writing, has_no_room, is_exclusive, is_rom_node, is_without_cell, kind_of, least_spare_cell, make_file, new_backing, new_life, new_origin, open_refusals, open_step, truncates, with_file_at};
-ghost use Rattle.plain_steps.specs.Changes.{row_change, row_changes};
+ghost use Rattle.plain_steps.specs.Changes.{brings_no_bytes, brings_nothing, is_no_rom, row_change, row_changes};
 ghost use Rattle.plain_steps.specs.Gives.{Gives};
-ghost use Rattle.plain_steps.specs.Rows.{RowsMatch};
+ghost use Rattle.plain_steps.specs.Sizes.{IsSized};
 
 use crate::asking::asked_path;
 use crate::changes::Change;
@@ -36,10 +36,11 @@ pub fn open(
     path: &Bytes,
     flags: OpenFlags,
 ) -> Result<(Reply, Option<Change>), Stop>
-    requires rows { RowsMatch namespace.old }
-    requires trees { 16 ≤ length namespace.old.trees }
+    requires sized { IsSized namespace.old }
     ensures told { Gives (λ opened. record { reply = opened.0; next = namespace.new; changes = row_changes opened.1 }) result (open_step namespace.old session path.now flags) }
+    ensures plain { IfOk result (λ opened. brings_nothing opened.1 ≡ true) }
     ensures err { OnErr result (namespace.new ≡ namespace.old) }
+    ensures sized { IsSized namespace.new }
 {
     let path = asked_path(namespace, alloc, session, path)?;
     open_at(namespace, alloc, session, path.as_names(), flags)
@@ -53,10 +54,11 @@ fn open_at(
     path: &[Name],
     flags: OpenFlags,
 ) -> Result<(Reply, Option<Change>), Stop>
-    requires rows { RowsMatch namespace.old }
-    requires trees { 16 ≤ length namespace.old.trees }
+    requires sized { IsSized namespace.old }
     ensures told { Gives (λ opened. record { reply = opened.0; next = namespace.new; changes = row_changes opened.1 }) result (open_at namespace.old session path.now flags) }
+    ensures plain { IfOk result (λ opened. brings_nothing opened.1 ≡ true) }
     ensures err { OnErr result (namespace.new ≡ namespace.old) }
+    ensures sized { IsSized namespace.new }
 {
     open_refusals(namespace, session, path, flags)?;
     let change = make_missing(namespace, alloc, path)?;
@@ -77,7 +79,7 @@ fn open_refusals(
     path: &[Name],
     flags: OpenFlags,
 ) -> Result<(), Errno>
-    requires { RowsMatch namespace.now }
+    requires { IsSized namespace.now }
     ensures value { result ≡ open_refusals namespace.now session path.now flags }
     ensures room { OnOk result ((not (is_there namespace.now path.now) && has_no_room namespace.now path.now) ≡ false) }
 {
@@ -130,7 +132,7 @@ fn is_rom_node(node: Option<NodeKind>) -> bool
 
 // Whether a file can't be made at the path for want of a node, a row or a cell.
 fn has_no_room(namespace: &Namespace, path: &[Name]) -> bool
-    requires { RowsMatch namespace.now }
+    requires { IsSized namespace.now }
     ensures { result ≡ has_no_room namespace.now path.now }
 {
     is_full(namespace, path)
@@ -201,13 +203,14 @@ fn make_missing(
     alloc: Global,
     path: &[Name],
 ) -> Result<Option<Change>, NoMemory>
-    requires rows { RowsMatch namespace.old }
-    requires trees { 16 ≤ length namespace.old.trees }
+    requires sized { IsSized namespace.old }
     requires room { (not (is_there namespace.old path.now) && has_no_room namespace.old path.now) ≡ false }
     ensures ok { IfOk result (λ change. with_file_at namespace.old path.now
         ≡ record { next = namespace.new; changes = row_changes change }) }
+    ensures plain { IfOk result (λ change. brings_nothing change ≡ true) }
     ensures kept { OnOk result (is_file namespace.new path.now ≡ false → namespace.new ≡ namespace.old) }
     ensures err { OnErr result (namespace.new ≡ namespace.old) }
+    ensures sized { IsSized namespace.new }
 {
     if is_there(namespace, path) {
         return Ok(None);
@@ -217,12 +220,14 @@ fn make_missing(
 
 #[tactic(auto, unfolding(vfs_model::specs::OpenStep::make_file, vfs_model::specs::Lookup::with_node))]
 fn make_file(namespace: &mut Namespace, alloc: Global, path: &[Name]) -> Result<Change, NoMemory>
-    requires rows { RowsMatch namespace.old }
+    requires sized { IsSized namespace.old }
     requires room { has_no_room namespace.old path.now ≡ false }
     ensures ok { IfOk result (λ change. make_file namespace.old path.now
         ≡ record { next = namespace.new; changes = row_change change ∷ [] }) }
+    ensures plain { IfOk result (λ change. brings_no_bytes change ≡ true) }
     ensures number { (covering_mount namespace.old path.now).number < 16 }
     ensures err { OnErr result (namespace.new ≡ namespace.old) }
+    ensures sized { IsSized namespace.new }
 {
     let Some(row) = least_free_row(namespace) else {
         unreachable!();
@@ -291,7 +296,8 @@ fn new_backing(namespace: &Namespace, mount: &Mount) -> Backing
 }
 
 fn new_origin(backing: &Backing) -> Origin
-    ensures { result ≡ new_origin backing.now }
+    ensures value { result ≡ new_origin backing.now }
+    ensures plain { is_no_rom result ≡ true }
 {
     match backing {
         Backing::Memory => Origin::Empty,
@@ -313,6 +319,7 @@ fn refer_to(
     kind: Kind,
 ) -> HoldId
     ensures hold { result ≡ record { session = session; number = least_free_number namespace.old session } }
+    ensures sized { IsSized namespace.old → IsSized namespace.new }
     ensures next { namespace.new ≡ with_reference namespace.old session (least_free_number namespace.old session) (Some (record { role = Role.Open; file = file.now; kind = kind; mount = (covering_mount namespace.old path.now).number })) }
 {
     let number = least_free_number(namespace, session);

@@ -1,14 +1,15 @@
 //! References of sessions to files: giving them up, and mapping open files.
 
-ghost use Rattle.std.specs.Prelude.{◌≡◌, ◌≤◌, [], is_none, length, option_map, OnErr};
+ghost use Rattle.std.specs.Prelude.{◌≡◌, ◌≤◌, [], is_none, length, option_map, true, IfOk, OnErr};
 ghost use Rattle.std.specs.List.{position_or_len};
 ghost use Rattle.std.specs.Option.{option_copied};
 ghost use Rattle.vfs_base.specs.declared.reply.Reply.TheVariants as reply;
 ghost use Rattle.vfs_model.specs.Namespace.{references_of, with_reference};
 ghost use Rattle.vfs_model.specs.OpenStep.{least_free_number};
 ghost use Rattle.vfs_model.specs.ReferenceSteps.{give_up_step, in_role, is_device_kind, map_step, reference_at, same_role};
-ghost use Rattle.plain_steps.specs.Changes.{row_changes};
+ghost use Rattle.plain_steps.specs.Changes.{brings_nothing, row_changes};
 ghost use Rattle.plain_steps.specs.Gives.{Tells};
+ghost use Rattle.plain_steps.specs.Sizes.{IsSized};
 
 use crate::changes::Change;
 use crate::flat;
@@ -53,6 +54,7 @@ fn first_empty(references: &[Option<Reference>]) -> u8
 }
 
 /// What stands at a number of a session's references from now on.
+#[tactic(auto, using(crate::proofs::Sized::sized_reference))]
 pub fn set_reference(
     namespace: &mut Namespace,
     alloc: Global,
@@ -60,7 +62,8 @@ pub fn set_reference(
     number: u8,
     reference: Option<Reference>,
 )
-    ensures { namespace.new ≡ with_reference namespace.old session number reference }
+    ensures next { namespace.new ≡ with_reference namespace.old session number reference }
+    ensures sized { IsSized namespace.old → IsSized namespace.new }
 {
     let first = HOLDS * (session.number() as usize - 1);
     let place = first + (number as usize).saturating_sub(1);
@@ -131,7 +134,9 @@ pub fn give_up(
     role: &Role,
 ) -> Result<Option<Change>, Errno>
     ensures told { Tells (λ change. record { reply = reply.Done; next = namespace.new; changes = row_changes change }) result (give_up_step role.now namespace.old session hold.now) }
+    ensures plain { IfOk result (λ change. brings_nothing change ≡ true) }
     ensures err { OnErr result (namespace.new ≡ namespace.old) }
+    ensures sized { IsSized namespace.old → IsSized namespace.new }
 {
     let Some(row) = row_at(namespace, session, hold, role) else {
         return Err(Errno::EBADF);
@@ -153,6 +158,7 @@ pub fn map(
 ) -> Result<HoldId, Errno>
     ensures told { Tells (λ held. record { reply = reply.Held held; next = namespace.new; changes = [] }) result (map_step namespace.old session hold.now) }
     ensures err { OnErr result (namespace.new ≡ namespace.old) }
+    ensures sized { IsSized namespace.old → IsSized namespace.new }
 {
     let Some(opened) = reference_at(namespace, session, hold, &Role::Open) else {
         return Err(Errno::EBADF);

@@ -1,13 +1,14 @@
 //! Rows: which are free, how they are bound and freed, and what keeps a file alive.
 
-ghost use Rattle.std.specs.Prelude.{◌≡◌, ◌+◌, ◌<◌, is_none, nat_lt, IfSome, [], slice_index_or, slice_set};
+ghost use Rattle.std.specs.Prelude.{true, ◌≡◌, ◌+◌, ◌<◌, is_none, nat_lt, IfSome, [], slice_index_or, slice_set};
 ghost use Rattle.std.specs.List.{list_any};
 ghost use Rattle.vfs_base.specs.declared.limits.TheConstants.{ROWS};
 ghost use Rattle.vfs_model.specs.FileLife.{Rows, after_end, after_taking, backing_of, bind_row, end_of_dropped, free_if_unused, has_row, no_device, no_volume, with_device, with_spare_cell, is_file_of_row, is_free_row, is_held, is_linked, least_free_row, refers_to};
 ghost use Rattle.vfs_model.specs.Namespace.{file_of, generation_at, life_at};
 ghost use Rattle.vfs_model.specs.declared.namespace.RowChange.TheVariants as change;
-ghost use Rattle.plain_steps.specs.Changes.{freed, row_change, row_changes};
+ghost use Rattle.plain_steps.specs.Changes.{brings_nothing, freed, row_change, row_changes};
 ghost use Rattle.plain_steps.specs.Rows.{RowsMatch, first_free};
+ghost use Rattle.plain_steps.specs.Sizes.{IsSized};
 
 use crate::changes::Change;
 use crate::flat;
@@ -116,10 +117,11 @@ fn refers_to(row: RowId, reference: &Option<Reference>) -> bool
 }
 
 /// Binds the row, which is free, to this live file.
-#[tactic(auto, unfolding(vfs_model::specs::FileLife::bind_row))]
+#[tactic(auto, using(crate::proofs::Sized::sized_bind), unfolding(vfs_model::specs::FileLife::bind_row))]
 pub fn bind_row(namespace: &mut Namespace, alloc: Global, row: RowId, life: LiveFile)
     requires { generation_at namespace.old row < 18446744073709551615 }
-    ensures { namespace.new ≡ bind_row namespace.old row life }
+    ensures next { namespace.new ≡ bind_row namespace.old row life }
+    ensures sized { IsSized namespace.old → IsSized namespace.new }
 {
     let place = row.number() as usize - 1;
     let generation = generation_at(namespace, row) + 1;
@@ -197,8 +199,10 @@ fn set_out(devices: &mut List<DeviceState>, alloc: Global, device: usize, is_out
 }
 
 /// Frees the row, whose file comes to this end. The row keeps its generation.
+#[tactic(auto, using(crate::proofs::Sized::sized_freed))]
 pub fn free_row(namespace: &mut Namespace, alloc: Global, row: RowId, end: End) -> Change
     ensures next { namespace.new ≡ freed namespace.old row end }
+    ensures sized { IsSized namespace.old → IsSized namespace.new }
     ensures told { row_change result ≡ change.Free (file_of namespace.old row) end }
 {
     let generation = generation_at(namespace, row);
@@ -240,8 +244,10 @@ fn end_of_backing(backing: &Backing) -> End
 /// Frees the row unless its file is linked or held.
 #[tactic(auto, unfolding(vfs_model::specs::FileLife::free_if_unused, vfs_model::specs::FileLife::free_row))]
 pub fn free_if_unused(namespace: &mut Namespace, alloc: Global, row: RowId) -> Option<Change>
-    ensures { free_if_unused namespace.old row
+    ensures next { free_if_unused namespace.old row
         ≡ record { next = namespace.new; changes = row_changes result } }
+    ensures plain { brings_nothing result ≡ true }
+    ensures sized { IsSized namespace.old → IsSized namespace.new }
 {
     if is_linked(namespace, row) || is_held(namespace, row) {
         return None;

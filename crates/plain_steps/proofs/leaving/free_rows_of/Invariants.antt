@@ -1,4 +1,4 @@
-use Rattle.std.proofs.Common.{◌≡◌, ℕ, ◌+◌, ◌≤◌, List, drop, map, filter, fold, length}
+use Rattle.std.proofs.Common.{◌≡◌, ◌+◌, ◌≤◌, drop, fold, length}
 use Rattle.std.specs.Prelude.{vec_len, vec_capacity}
 use Rattle.vfs_model.specs.FileLife.{end_of_unmounted, free_row}
 use Rattle.vfs_model.specs.UmountSteps.{rows_of_mount}

@@ -1,8 +1,6 @@
 use Rattle.std.proofs.Common.{◌≡◌, ◌++◌, drop, map}
 use Rattle.vfs_base.specs.declared.kinds.DeviceClass.TheVariants as class
-use Rattle.vfs_base.specs.declared.kinds.FsType.TheVariants as fs
 use Rattle.vfs_base.specs.declared.reply.DeviceLine.{DeviceLine}
-use Rattle.vfs_model.specs.Content.{is_mounted}
 use Rattle.vfs_model.specs.declared.namespace.DeviceState.{DeviceState}
 use Rattle.plain_steps.proofs.tables.push_devices.Given as goal
 

@@ -1,0 +1,43 @@
+//! Changes of rows, made in the world.
+
+ghost use Rattle.std.specs.Prelude.{◌≡◌, fold, true};
+ghost use Rattle.vfs_model.specs.Homes.{change_row};
+ghost use Rattle.plain_steps.specs.Changes.{brings_no_bytes, brings_nothing, row_change, row_changes};
+
+use crate::changes::Change;
+use plain_files::{bind_file, free_file};
+use std::alloc::Global;
+use vfs_base::Bytes;
+use vfs_model::World;
+
+/// Makes the change, if there is one. It brings no bytes from a rom.
+pub fn apply(world: &mut World, alloc: Global, change: Option<Change>)
+    requires { brings_nothing change ≡ true }
+    ensures next { world.new ≡ fold change_row world.old (row_changes change) }
+    ensures namespace { world.new.namespace ≡ world.old.namespace }
+{
+    match change {
+        None => {}
+        Some(change) => apply_change(world, alloc, &change),
+    }
+}
+
+#[tactic(auto, using(crate::proofs::Contents::no_rom_no_bytes))]
+fn apply_change(world: &mut World, alloc: Global, change: &Change)
+    requires { brings_no_bytes change.now ≡ true }
+    ensures next { world.new ≡ change_row world.old (row_change change.now) }
+    ensures namespace { world.new.namespace ≡ world.old.namespace }
+{
+    match change {
+        Change::Bind {
+            row,
+            generation,
+            origin,
+        } => bind_file(world, alloc, *row, *generation, origin, Bytes::new(alloc)),
+        Change::Free {
+            row,
+            generation,
+            end,
+        } => free_file(world, alloc, *row, *generation, end),
+    }
+}
