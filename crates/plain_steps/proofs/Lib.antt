@@ -1,4 +1,5 @@
 pub mod Binds
+pub mod Brings
 pub mod Contents
 pub mod Entries
 pub mod Filters

@@ -1,7 +1,7 @@
 -- A mount on its way: what it begins with, and room for it.
 use Rattle.std.specs.Prelude.{◌≡◌, ℕ, ◌+◌, ◌≤◌, Option, Some, None, List, [], ◌∷◌, ◌++◌, length, map, fold, cond, zip, count_by, Vec, vec_len, vec_capacity}
 use Rattle.std.specs.FinMap.Entries.{put}
-use Rattle.std.specs.List.{enumerate_from}
+use Rattle.std.specs.List.{enumerate_from, flat_map}
 use Rattle.vfs_base.specs.Path.{path_cmp}
 use Rattle.vfs_base.specs.Path.{Path}
 use Rattle.vfs_base.specs.declared.kinds.NodeKind.{NodeKind}
@@ -18,6 +18,7 @@ use Rattle.vfs_model.specs.declared.namespace.RomImage.{RomImage}
 use Rattle.vfs_model.specs.declared.namespace.RowChange.{RowChange}
 use Rattle.vfs_model.specs.declared.namespace.RowChange.TheVariants as change
 use Rattle.plain_files.specs.Contents.{origin_content}
+use Rattle.plain_steps.specs.Changes.{row_change}
 use Rattle.plain_steps.specs.declared.changes.Change.{Change}
 
 -- the content with one file more for each device, of which the first has this place
@@ -64,3 +65,11 @@ pub record IsReady {Z Y : Type 0} (n : Namespace) (content : Content) (tree : Ve
 abbrev pub free_in : ℕ → List (Option LiveFile) → List ℕ → ℕ
 free_in count lives generations =
     fold (λ count free. count + cond free 1 0) count (map (λ row. is_free_row row.0 row.1) (zip lives generations))
+
+-- the bytes that the files of a content bring from roms, file by file
+abbrev pub brought_by : List RomImage → Content → List (List ℕ)
+brought_by roms content = flat_map (λ entry. entry_contents roms entry.1) content
+
+-- what the changes bring has more at its end
+abbrev pub BringsMore : List Change → List Change → (List RomImage → List (List ℕ)) → Type 0
+BringsMore old new more = (roms : List RomImage) → contents_of roms (map row_change new) ≡ contents_of roms (map row_change old) ++ more roms

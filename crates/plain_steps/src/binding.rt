@@ -4,7 +4,7 @@ ghost use Rattle.std.specs.Prelude.{◌≡◌, ◌∷◌, [], ◌+◌, ◌≤◌
 ghost use Rattle.vfs_model.specs.Lookup.{with_tree};
 ghost use Rattle.vfs_model.specs.MountStep.{add_content, bind_content, origin_backing};
 ghost use Rattle.plain_steps.specs.Leaving.{rows_so_far};
-ghost use Rattle.plain_steps.specs.Mounting.{IsReady, add_entries, free_count};
+ghost use Rattle.plain_steps.specs.Mounting.{BringsMore, IsReady, add_entries, brought_by, entry_contents, free_count};
 
 use crate::changes::Change;
 use crate::content::Content;
@@ -16,7 +16,7 @@ use vfs_base::{NodeKind, Path};
 use vfs_model::{Backing, LiveFile, Mount, Namespace, Origin};
 
 /// The nodes of the content are put into the tree of the mount, and each of its files has a row.
-#[tactic(auto, using(crate::proofs::Binds::ready_for_one, crate::proofs::Binds::ready_for_later))]
+#[tactic(auto, using(crate::proofs::Binds::ready_for_one, crate::proofs::Binds::ready_for_later, crate::proofs::Brings::rest_brought))]
 pub fn add_entries(
     namespace: &mut Namespace,
     alloc: Global,
@@ -26,7 +26,8 @@ pub fn add_entries(
     changes: &mut Vec<Change>,
 )
     requires { IsReady namespace.old content tree.old changes.old }
-    ensures { add_entries mount.now (rows_so_far (with_tree namespace.old mount.now.number tree.old.items) changes.old.items) content
+    ensures contents { BringsMore changes.old.items changes.new.items (λ roms. brought_by roms content) }
+    ensures next { add_entries mount.now (rows_so_far (with_tree namespace.old mount.now.number tree.old.items) changes.old.items) content
         ≡ rows_so_far (with_tree namespace.new mount.now.number tree.new.items) changes.new.items }
 {
     for (path, origin) in content.into_vec() {
@@ -35,7 +36,7 @@ pub fn add_entries(
 }
 
 // One node of the content: a folder, or a file.
-#[tactic(auto, using(crate::proofs::Binds::entry_put))]
+#[tactic(auto, using(crate::proofs::Binds::entry_put, crate::proofs::Brings::none_more))]
 fn add_entry(
     namespace: &mut Namespace,
     alloc: Global,
@@ -54,6 +55,7 @@ fn add_entry(
     ensures free { free_count namespace.old ≤ free_count namespace.new + cond (is_some origin) 1 0 }
     ensures tree_len { vec_len tree.new ≤ vec_len tree.old + 1 }
     ensures tree_room { vec_capacity tree.old ≤ vec_capacity tree.new }
+    ensures contents { BringsMore changes.old.items changes.new.items (λ roms. entry_contents roms origin) }
     ensures changes_len { vec_len changes.new ≤ vec_len changes.old + 1 }
     ensures changes_room { vec_capacity changes.old ≤ vec_capacity changes.new }
 {
@@ -65,7 +67,7 @@ fn add_entry(
 }
 
 // A file of the mount is bound to the least free row.
-#[tactic(auto, using(crate::proofs::Binds::bound_so, crate::proofs::Binds::free_row_exists, crate::proofs::Binds::one_file, crate::proofs::Binds::one_row_taken))]
+#[tactic(auto, using(crate::proofs::Binds::bound_so, crate::proofs::Binds::free_row_exists, crate::proofs::Binds::one_file, crate::proofs::Brings::one_more, crate::proofs::Binds::one_row_taken))]
 fn bind_content(
     namespace: &mut Namespace,
     alloc: Global,
@@ -84,6 +86,7 @@ fn bind_content(
     ensures free { free_count namespace.old ≤ free_count namespace.new + 1 }
     ensures tree_len { vec_len tree.new ≤ vec_len tree.old + 1 }
     ensures tree_room { vec_capacity tree.old ≤ vec_capacity tree.new }
+    ensures contents { BringsMore changes.old.items changes.new.items (λ roms. entry_contents roms (Some origin)) }
     ensures changes_len { vec_len changes.new ≡ vec_len changes.old + 1 }
     ensures changes_room { vec_capacity changes.new ≡ vec_capacity changes.old }
 {

@@ -1,18 +1,19 @@
 //! What the types of file systems and their sources offer to a mount.
 
-ghost use Rattle.std.specs.Prelude.{◌≡◌, ◌∷◌, [], map, codes, ◌≤◌, cond, is_some, slice_index_or, IfOk, OnOk, OnErr};
+ghost use Rattle.std.specs.Prelude.{◌≡◌, ◌∷◌, [], ◌++◌, map, codes, ◌≤◌, cond, is_some, slice_index_or, IfOk, OnOk, OnErr};
 ghost use Rattle.std.specs.FinMap.Entries.{put};
 ghost use Rattle.vfs_base.specs.Path.{path_cmp};
 ghost use Rattle.vfs_model.specs.Content.{content_of, device_content, file_count, fs_type_of, kept_origin, no_rom, rom_origin};
 ghost use Rattle.vfs_model.specs.FileLife.{volume_at};
 ghost use Rattle.vfs_model.specs.declared.namespace.Origin.TheVariants as origin;
-ghost use Rattle.plain_steps.specs.Mounting.{devices_from};
+ghost use Rattle.plain_steps.specs.Mounting.{brought_by, devices_from, entry_contents};
 
 use crate::sources::{rom_at, volume_named};
 use crate::trees::put_entry;
+use plain_files::origin_content;
 use std::alloc::Global;
-use vfs_base::{FsType, List, NoMemory, Path};
-use vfs_model::{DeviceState, KeptNode, Namespace, Origin, RomNode};
+use vfs_base::{Bytes, FsType, List, NoMemory, Path, copy_bytes};
+use vfs_model::{DeviceState, KeptNode, Namespace, Origin, RomImage, RomNode};
 
 /// At each path a folder (`None`), or a file by what it begins with.
 pub type Content = List<(Path, Option<Origin>)>;
@@ -169,5 +170,34 @@ fn file_number(origin: &Option<Origin>) -> usize
     match origin {
         None => 0,
         Some(_) => 1,
+    }
+}
+
+/// The bytes that the files of the content bring from roms, file by file, in memory of their own.
+pub fn brought_by(
+    alloc: Global,
+    roms: &[RomImage],
+    content: &[(Path, Option<Origin>)],
+) -> Result<List<Bytes>, NoMemory>
+    ensures { IfOk result (λ contents. contents ≡ brought_by roms.now content.now) }
+{
+    let mut contents = List::new(alloc);
+    for entry in content {
+        push_contents(&mut contents, alloc, roms, &entry.1)?;
+    }
+    Ok(contents)
+}
+
+fn push_contents(
+    contents: &mut List<Bytes>,
+    alloc: Global,
+    roms: &[RomImage],
+    origin: &Option<Origin>,
+) -> Result<(), NoMemory>
+    ensures { OnOk result (contents.new ≡ contents.old ++ entry_contents roms.now origin.now) }
+{
+    match origin {
+        None => Ok(()),
+        Some(origin) => contents.push(copy_bytes(alloc, origin_content(roms, origin))?),
     }
 }

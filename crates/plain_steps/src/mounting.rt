@@ -1,6 +1,6 @@
 //! Mounting a file system.
 
-ghost use Rattle.std.specs.Prelude.{◌≡◌, ◌==◌, ◌&&◌, ◌||◌, ◌+◌, ◌<◌, ◌≤◌, ◌++◌, ◌∷◌, [], not, cond, length, map, nat_le, vec_len, vec_capacity, IfOk, OnOk, OnErr};
+ghost use Rattle.std.specs.Prelude.{◌≡◌, ◌==◌, ◌&&◌, ◌||◌, ◌+◌, ◌<◌, ◌≤◌, ◌++◌, ◌∷◌, [], not, cond, length, map, nat_le, List, vec_len, vec_capacity, IfOk, OnOk, OnErr};
 ghost use Rattle.std.specs.List.{list_any};
 ghost use Rattle.vfs_base.specs.declared.kinds.FsType.TheVariants as fs_type;
 ghost use Rattle.vfs_base.specs.declared.reply.Reply.TheVariants as reply;
@@ -9,16 +9,16 @@ ghost use Rattle.vfs_model.specs.FileLife.{is_free_row};
 ghost use Rattle.vfs_model.specs.Lookup.{has_folder_within, has_mount_below, is_point, with_tree};
 ghost use Rattle.vfs_model.specs.MountStep.{add_mount, is_taken, is_without_source, least_free_mount, mount_at, mount_refusals, mount_step, without_kept};
 ghost use Rattle.vfs_model.specs.Namespace.{all_mounts, same_bytes, tree_of};
-ghost use Rattle.vfs_model.specs.declared.namespace.LiveFile.{LiveFile};
+ghost use Rattle.vfs_model.specs.declared.namespace.RomImage.{RomImage as ModelRom};
 ghost use Rattle.plain_steps.specs.Changes.{row_change};
 ghost use Rattle.plain_steps.specs.Gives.{Gives};
-ghost use Rattle.plain_steps.specs.Mounting.{free_count, free_in, with_mount};
+ghost use Rattle.plain_steps.specs.Mounting.{brought_by, contents_of, free_count, free_in, with_mount};
 ghost use Rattle.plain_steps.specs.Sizes.{IsSized};
 
 use crate::asking::asked_path;
 use crate::binding::add_entries;
 use crate::changes::Change;
-use crate::content::{Content, content_of, file_count, fs_type_of};
+use crate::content::{Content, brought_by, content_of, file_count, fs_type_of};
 use crate::leaving::set_kept;
 use crate::lookup::{
     has_folder_within, has_mount_below, has_nodes, is_file, is_point, is_there, walk_refusal,
@@ -190,6 +190,14 @@ fn has_mount_numbered(mounts: &[Mount], number: u8) -> bool
     mounts.iter().any(|mount| mount.number.number() == number)
 }
 
+/// What a mount changes: the rows that it binds, and the bytes that their files bring from a rom.
+#[derive(Debug, Drop)]
+pub struct Mounted {
+    pub changes: List<Change>,
+    /// For each change the bytes of its file, in memory of their own.
+    pub contents: List<Bytes>,
+}
+
 /// Mounts a file system of the type that `fs` names on the empty folder at the point.
 pub fn mount(
     namespace: &mut Namespace,
@@ -198,9 +206,10 @@ pub fn mount(
     source: &Bytes,
     point: &Bytes,
     fs: &Bytes,
-) -> Result<List<Change>, Stop>
+) -> Result<Mounted, Stop>
     requires { IsSized namespace.old }
-    ensures told { Gives (λ changes. record { reply = reply.Done; next = namespace.new; changes = map row_change changes }) result (mount_step namespace.old session source.now point.now fs.now) }
+    ensures contents { IfOk result (λ mounted. mounted.contents ≡ contents_of namespace.old.roms (map row_change mounted.changes)) }
+    ensures told { Gives (λ mounted. record { reply = reply.Done; next = namespace.new; changes = map row_change mounted.changes }) result (mount_step namespace.old session source.now point.now fs.now) }
     ensures err { OnErr result (namespace.new ≡ namespace.old) }
 {
     let path = asked_path(namespace, alloc, session, point)?;
@@ -217,15 +226,18 @@ fn mount_at(
     path: Path,
     fs: FsType,
     source: &Bytes,
-) -> Result<List<Change>, Stop>
+) -> Result<Mounted, Stop>
     requires { IsSized namespace.old }
-    ensures told { Gives (λ changes. record { reply = reply.Done; next = namespace.new; changes = map row_change changes }) result (mount_at namespace.old path fs source.now) }
+    ensures contents { IfOk result (λ mounted. mounted.contents ≡ contents_of namespace.old.roms (map row_change mounted.changes)) }
+    ensures told { Gives (λ mounted. record { reply = reply.Done; next = namespace.new; changes = map row_change mounted.changes }) result (mount_at namespace.old path fs source.now) }
     ensures err { OnErr result (namespace.new ≡ namespace.old) }
 {
     let content = content_of(namespace, alloc, fs, source.as_slice())?;
     mount_refusals(namespace, path.as_names(), fs, source.as_slice(), &content)?;
     let mount = make_mount(namespace, path, fs, source)?;
-    Ok(add_mount(namespace, alloc, &mount, content)?)
+    let contents = brought_by(alloc, namespace.roms.as_slice(), content.as_slice())?;
+    let changes = add_mount(namespace, alloc, &mount, content)?;
+    Ok(Mounted { changes, contents })
 }
 
 fn make_mount(
@@ -256,6 +268,7 @@ fn add_mount(
     requires sized { IsSized namespace.old }
     requires content { content ≡ content_of namespace.old mount.now.fs mount.now.source }
     requires free { file_count content ≤ free_count namespace.old }
+    ensures contents { IfOk result (λ changes. (roms : List ModelRom) → brought_by roms content ≡ contents_of roms (map row_change changes)) }
     ensures ok { IfOk result (λ changes. add_mount namespace.old mount.now ≡ record { next = namespace.new; changes = map row_change changes }) }
     ensures err { OnErr result (namespace.new ≡ namespace.old) }
 {
