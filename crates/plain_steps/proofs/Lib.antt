@@ -9,5 +9,7 @@ pub mod Moves
 pub mod Puts
 pub mod Sets
 pub mod Sized
+pub mod SizedUnmounts
 pub mod Unmounts
 pub mod Walks
+pub mod WorldSteps

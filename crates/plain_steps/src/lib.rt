@@ -13,6 +13,7 @@ mod formatting;
 mod leaving;
 mod listing;
 mod lookup;
+mod mount_steps;
 mod moving;
 mod naming;
 mod nodes;
@@ -25,6 +26,8 @@ mod stop;
 mod tables;
 mod trees;
 mod unmounting;
+mod world;
 
 pub use changes::Change;
 pub use stop::Stop;
+pub use world::PlainWorld;
