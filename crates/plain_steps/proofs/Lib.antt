@@ -12,6 +12,8 @@ pub mod Numbers
 pub mod Puts
 pub mod Sets
 pub mod Sized
+pub mod SizedUnmounts
 pub mod Starts
 pub mod Unmounts
 pub mod Walks
+pub mod WorldSteps

@@ -39,6 +39,9 @@ sized_tree n number tree s l = record {
   places = length-set n.trees number tree ∙ s.places;
   trees = λ j. item_kept (λ t. length t ≤ 4096) n.trees number j tree [] l (s.trees j);
   spares = λ v. s.spares v;
+  pages = λ v. s.pages v;
+  kept = λ v. s.kept v;
+  roms = λ place. s.roms place;
 }
 
 pub put_grows : {X : Type 0} (path : Path) (value : X) (entries : List (Path × X)) →
@@ -121,6 +124,11 @@ sized_cell is_spare n volume cell s =
       trees = λ j. s.trees j;
       spares = λ v. item_kept (λ one. length one.spare ≤ 1024) n.volumes volume v (with_spare_cell is_spare cell (volume_at n volume)) no_volume
           (omega (arith, same, s.spares volume)) (s.spares v);
+      pages = λ v. item_kept (λ one. length one.pages ≤ 1024) n.volumes volume v (with_spare_cell is_spare cell (volume_at n volume)) no_volume
+          (s.pages volume) (s.pages v);
+      kept = λ v. item_kept (λ one. length one.kept ≤ 4096) n.volumes volume v (with_spare_cell is_spare cell (volume_at n volume)) no_volume
+          (s.kept volume) (s.kept v);
+      roms = λ place. s.roms place;
     }
 
 sized_device : (is_out : Bool) (n : Namespace) (device : ℕ) → IsSized n → IsSized (with_device is_out n device)
@@ -133,6 +141,9 @@ sized_device is_out n device s = record {
   places = s.places;
   trees = λ j. s.trees j;
   spares = λ v. s.spares v;
+  pages = λ v. s.pages v;
+  kept = λ v. s.kept v;
+  roms = λ place. s.roms place;
 }
 
 sized_taking : (n : Namespace) (b : Backing) → IsSized n → IsSized (after_taking n b)
@@ -157,6 +168,9 @@ sized_rows n lives generations s l g = record {
   places = s.places;
   trees = λ j. s.trees j;
   spares = λ v. s.spares v;
+  pages = λ v. s.pages v;
+  kept = λ v. s.kept v;
+  roms = λ place. s.roms place;
 }
 
 pub sized_bind : (n : Namespace) (row : ℕ) (life : LiveFile) → IsSized n → IsSized (bind_row n row life)
@@ -183,6 +197,9 @@ sized_reference n k number reference s =
       places = s.places;
       trees = λ j. s.trees j;
       spares = λ v. s.spares v;
+      pages = λ v. s.pages v;
+      kept = λ v. s.kept v;
+      roms = λ place. s.roms place;
     }
 
 pub sized_folder : (n : Namespace) (k : ℕ) (path : Path) → IsSized n → IsSized (with_folder_of n k path)
@@ -197,4 +214,22 @@ sized_folder n k path s =
       places = s.places;
       trees = λ j. s.trees j;
       spares = λ v. s.spares v;
+      pages = λ v. s.pages v;
+      kept = λ v. s.kept v;
+      roms = λ place. s.roms place;
     }
+
+pub sized_stopped : (n : Namespace) (is_stopped : Bool) → IsSized n → IsSized (record n { is_stopped = is_stopped })
+sized_stopped n is_stopped s = record {
+  lives = s.lives;
+  generations = s.generations;
+  references = s.references;
+  folders = s.folders;
+  mounts = s.mounts;
+  places = s.places;
+  trees = λ j. s.trees j;
+  spares = λ v. s.spares v;
+  pages = λ v. s.pages v;
+  kept = λ v. s.kept v;
+  roms = λ place. s.roms place;
+}

@@ -39,3 +39,8 @@ brings_no_bytes (told.Free row generation end) = true
 abbrev pub brings_nothing : Option Change → Bool
 brings_nothing None = true
 brings_nothing (Some told) = brings_no_bytes told
+
+-- the change frees a row
+abbrev pub frees : RowChange → Bool
+frees (change.Bind file begins) = false
+frees (change.Free file end) = true

@@ -1,5 +1,6 @@
 -- How many items the lists of a namespace have.
-use Rattle.std.specs.Prelude.{◌≡◌, ℕ, ◌≤◌, length}
+use Rattle.std.specs.Prelude.{◌≡◌, ℕ, ◌≤◌, length, slice_index_or}
+use Rattle.vfs_model.specs.Content.{no_rom}
 use Rattle.vfs_model.specs.FileLife.{volume_at}
 use Rattle.vfs_model.specs.Namespace.{tree_of}
 use Rattle.vfs_model.specs.declared.namespace.Namespace.{Namespace}
@@ -14,3 +15,6 @@ pub record IsSized (n : Namespace) : Type 0 where
   pub places : length n.trees ≡ 16
   pub trees : (number : ℕ) → length (tree_of n number) ≤ 4096
   pub spares : (volume : ℕ) → length (volume_at n volume).spare ≤ 1024
+  pub pages : (volume : ℕ) → length (volume_at n volume).pages ≤ 1024
+  pub kept : (volume : ℕ) → length (volume_at n volume).kept ≤ 4096
+  pub roms : (place : ℕ) → length (slice_index_or n.roms place no_rom).nodes ≤ 4096

@@ -1,13 +1,14 @@
 //! Changes of rows, made in the world.
 
-ghost use Rattle.std.specs.Prelude.{◌≡◌, fold, true};
+ghost use Rattle.std.specs.Prelude.{◌≡◌, fold, map, true};
+ghost use Rattle.std.specs.List.{list_all};
 ghost use Rattle.vfs_model.specs.Homes.{change_row};
 ghost use Rattle.plain_steps.specs.Changes.{brings_no_bytes, brings_nothing, row_change, row_changes};
 
 use crate::changes::Change;
 use plain_files::{bind_file, free_file};
 use std::alloc::Global;
-use vfs_base::Bytes;
+use vfs_base::{Bytes, List};
 use vfs_model::World;
 
 /// Makes the change, if there is one. It brings no bytes from a rom.
@@ -39,5 +40,17 @@ fn apply_change(world: &mut World, alloc: Global, change: &Change)
             generation,
             end,
         } => free_file(world, alloc, *row, *generation, end),
+    }
+}
+
+/// Makes the changes, in their order. They bring no bytes from a rom.
+pub fn apply_all(world: &mut World, alloc: Global, changes: &List<Change>)
+    requires { list_all brings_no_bytes changes.now ≡ true }
+    ensures next { world.new ≡ fold change_row world.old (map row_change changes.now) }
+    ensures namespace { world.new.namespace ≡ world.old.namespace }
+{
+    let changes = changes.as_slice();
+    for change in changes {
+        apply_change(world, alloc, change);
     }
 }

@@ -7,6 +7,7 @@ ghost use Rattle.vfs_model.specs.FileLife.{no_volume, volume_named};
 ghost use Rattle.vfs_model.specs.Namespace.{same_bytes};
 ghost use Rattle.vfs_model.specs.UmountSteps.{format_volume, mkfs_step};
 ghost use Rattle.plain_steps.specs.Gives.{Gives};
+ghost use Rattle.plain_steps.specs.Sizes.{IsSized};
 
 use crate::sources::{is_mounted, volume_named};
 use crate::stop::{Stop, refuse_when};
@@ -22,6 +23,7 @@ use vfs_model::{Namespace, VolumeState};
 pub fn mkfs(namespace: &mut Namespace, alloc: Global, name: &Bytes) -> Result<(), Stop>
     ensures told { Gives (λ _. record { reply = reply.Done; next = namespace.new; changes = [] }) result (mkfs_step namespace.old name.now) }
     ensures err { OnErr result (namespace.new ≡ namespace.old) }
+    ensures sized { IsSized namespace.old → IsSized namespace.new }
 {
     refuse_when(Errno::ENXIO, !has_volume(namespace, name.as_slice()))?;
     refuse_when(
@@ -40,9 +42,11 @@ fn has_volume(namespace: &Namespace, name: &[u8]) -> bool
 }
 
 // Takes all names from the volume of this name, so that each of its cells is spare.
+#[tactic(auto, using(crate::proofs::SizedUnmounts::sized_format))]
 fn format_volume(namespace: &mut Namespace, alloc: Global, name: &[u8]) -> Result<(), NoMemory>
     ensures ok { OnOk result (namespace.new ≡ format_volume namespace.old (volume_named namespace.old name.now)) }
     ensures err { OnErr result (namespace.new ≡ namespace.old) }
+    ensures sized { IsSized namespace.old → IsSized namespace.new }
 {
     let place = volume_named(namespace, name);
     format_at(&mut namespace.volumes, alloc, place)

@@ -15,6 +15,7 @@ mod formatting;
 mod leaving;
 mod listing;
 mod lookup;
+mod mount_steps;
 mod mounting;
 mod moving;
 mod naming;
@@ -28,6 +29,8 @@ mod stop;
 mod tables;
 mod trees;
 mod unmounting;
+mod world;
 
 pub use changes::Change;
 pub use stop::Stop;
+pub use world::PlainWorld;

@@ -1,16 +1,17 @@
 //! Unmounting: what keeps a mount, and how its names, rows and nodes go.
 
-ghost use Rattle.std.specs.Prelude.{◌≡◌, ◌==◌, ◌||◌, ◌+◌, ◌≤◌, [], is_ok, map, find, fold, length, reverse, vec_len, vec_capacity, IfOk, OnErr};
-ghost use Rattle.std.specs.List.{list_any};
+ghost use Rattle.std.specs.Prelude.{◌≡◌, true, ◌==◌, ◌||◌, ◌+◌, ◌≤◌, [], is_ok, map, find, fold, length, reverse, vec_len, vec_capacity, IfOk, OnErr};
+ghost use Rattle.std.specs.List.{list_all, list_any};
 ghost use Rattle.std.specs.Option.{option_copied};
 ghost use Rattle.vfs_base.specs.Path.{AllAre};
 ghost use Rattle.vfs_base.specs.declared.reply.Reply.TheVariants as reply;
 ghost use Rattle.vfs_model.specs.Lookup.{covering_mount, has_mount_below};
 ghost use Rattle.vfs_model.specs.Namespace.{same_path, tree_of};
 ghost use Rattle.vfs_model.specs.UmountSteps.{is_busy, mount_at_point, refers_to_mount, remove_all, remove_mount, umount_step};
-ghost use Rattle.plain_steps.specs.Changes.{row_change};
+ghost use Rattle.plain_steps.specs.Changes.{brings_no_bytes, row_change};
 ghost use Rattle.plain_steps.specs.Gives.{Gives};
 ghost use Rattle.plain_steps.specs.Leaving.{live_count, rows_so_far, TreesShrink};
+ghost use Rattle.plain_steps.specs.Sizes.{IsSized};
 ghost use Rattle.plain_steps.specs.Unmounting.{HasRoom, umount_refusals};
 
 use crate::asking::asked_path;
@@ -81,8 +82,23 @@ fn find_mount<'a>(mounts: &'a [Mount], path: &[Name]) -> Option<&'a Mount>
 }
 
 /// Unmounts the file system with this point. Its files are freed, by row.
-#[tactic(auto, using(crate::proofs::Unmounts::umount_goes, crate::proofs::Unmounts::umount_stops))]
 pub fn umount(
+    namespace: &mut Namespace,
+    alloc: Global,
+    session: SessionId,
+    point: &Bytes,
+) -> Result<List<Change>, Stop>
+    requires { IsSized namespace.old }
+    ensures told { Gives (λ changes. record { reply = reply.Done; next = namespace.new; changes = map row_change changes }) result (umount_step namespace.old session point.now) }
+    ensures plain { IfOk result (λ changes. list_all brings_no_bytes changes ≡ true) }
+    ensures err { OnErr result (namespace.new ≡ namespace.old) }
+    ensures sized { IsSized namespace.new }
+{
+    unmount_point(namespace, alloc, session, point)
+}
+
+#[tactic(auto, using(crate::proofs::Unmounts::umount_goes, crate::proofs::Unmounts::umount_stops))]
+fn unmount_point(
     namespace: &mut Namespace,
     alloc: Global,
     session: SessionId,
@@ -146,8 +162,19 @@ fn leaving_mount(
 }
 
 /// All mounts but `/` go in reverse order, and `/` loses all its nodes.
-#[tactic(auto, unfolding(vfs_model::specs::UmountSteps::remove_all))]
 pub fn unmount_all(namespace: &mut Namespace, alloc: Global) -> Result<List<Change>, NoMemory>
+    requires { IsSized namespace.old }
+    ensures ok { IfOk result (λ changes. remove_all namespace.old
+        ≡ record { next = namespace.new; changes = map row_change changes }) }
+    ensures plain { IfOk result (λ changes. list_all brings_no_bytes changes ≡ true) }
+    ensures err { OnErr result (namespace.new ≡ namespace.old) }
+    ensures sized { IsSized namespace.new }
+{
+    unmount_each(namespace, alloc)
+}
+
+#[tactic(auto, unfolding(vfs_model::specs::UmountSteps::remove_all))]
+fn unmount_each(namespace: &mut Namespace, alloc: Global) -> Result<List<Change>, NoMemory>
     requires { length namespace.old.lives ≡ 1024 }
     ensures ok { IfOk result (λ changes. remove_all namespace.old
         ≡ record { next = namespace.new; changes = map row_change changes }) }
