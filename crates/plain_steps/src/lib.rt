@@ -12,6 +12,7 @@ mod changes;
 mod content;
 mod flat;
 mod formatting;
+mod holders;
 mod leaving;
 mod listing;
 mod lookup;
