@@ -2,9 +2,11 @@ pub mod Binds
 pub mod Brings
 pub mod Contents
 pub mod Copies
+pub mod Counts
 pub mod Entries
 pub mod Filters
 pub mod FreeRows
+pub mod HolderCounts
 pub mod Inserts
 pub mod Keeps
 pub mod Made

@@ -3,18 +3,62 @@
 ghost use Rattle.std.specs.Prelude.{◌≡◌, ◌∷◌, [], ◌++◌, map, filter, find, flat_map, option_to_list, not, IfOk, OnOk};
 ghost use Rattle.std.specs.Option.{option_copied};
 ghost use Rattle.vfs_model.specs.FileLife.{is_file_of_row, is_linked};
-ghost use Rattle.vfs_model.specs.Holders.{holder_paths, nameless_row, nameless_rows, path_in_mount, paths_of_row, reference_paths};
+ghost use Rattle.vfs_model.specs.Holders.{holder_lines, holder_paths, nameless_row, nameless_rows, path_in_mount, path_line, paths_of_row, reference_paths, row_line};
 ghost use Rattle.vfs_model.specs.Namespace.{tree_of};
+ghost use Rattle.plain_steps.specs.Sizes.{IsSized};
 
+use crate::counting::counted;
 use crate::lookup::tree_of;
 use crate::rows::is_linked;
 use std::alloc::Global;
-use vfs_base::{List, Name, NoMemory, NodeKind, Path, RowId};
+use std::collections::BTreeMap;
+use vfs_base::{HolderLine, HolderPlace, List, Name, NoMemory, NodeKind, Path, RowId};
 use vfs_model::{Mount, Namespace, Reference};
 
-/// The path of each holder: a reference to the file that stands there, a session's working
-/// directory, or a mount.
-pub fn holder_paths(namespace: &Namespace, alloc: Global) -> Result<List<Path>, NoMemory>
+/// The holders of each path that has any, in the order of paths, and then of each file without a
+/// name, by row.
+#[tactic(auto, using(crate::proofs::HolderCounts::paths_fit, crate::proofs::HolderCounts::rows_fit), unfolding(vfs_model::specs::Holders::holder_lines))]
+pub fn holder_lines(namespace: &Namespace, alloc: Global) -> Result<List<HolderLine>, NoMemory>
+    requires { IsSized namespace.now }
+    ensures { IfOk result (λ lines. lines ≡ holder_lines namespace.now) }
+{
+    let paths = counted(alloc, holder_paths(namespace, alloc)?)?;
+    let rows = counted(alloc, nameless_rows(namespace, alloc)?)?;
+    let mut lines = List::new(alloc);
+    push_path_lines(&mut lines, paths)?;
+    push_row_lines(&mut lines, rows)?;
+    Ok(lines)
+}
+
+fn push_path_lines(
+    lines: &mut List<HolderLine>,
+    counts: BTreeMap<Path, u32>,
+) -> Result<(), NoMemory>
+    ensures { OnOk result (lines.new ≡ lines.old ++ map path_line counts.entries) }
+{
+    for (path, count) in counts {
+        let place = HolderPlace::At { path };
+        lines.push(HolderLine { place, count })?;
+    }
+    Ok(())
+}
+
+fn push_row_lines(
+    lines: &mut List<HolderLine>,
+    counts: BTreeMap<RowId, u32>,
+) -> Result<(), NoMemory>
+    ensures { OnOk result (lines.new ≡ lines.old ++ map row_line counts.entries) }
+{
+    for (row, count) in counts {
+        let place = HolderPlace::Row { row };
+        lines.push(HolderLine { place, count })?;
+    }
+    Ok(())
+}
+
+// The path of each holder: a reference to the file that stands there, a session's working
+// directory, or a mount.
+fn holder_paths(namespace: &Namespace, alloc: Global) -> Result<List<Path>, NoMemory>
     ensures { IfOk result (λ paths. paths ≡ holder_paths namespace.now) }
 {
     let mut paths = List::new(alloc);
@@ -124,8 +168,8 @@ fn push_points(paths: &mut List<Path>, mounts: &[Mount]) -> Result<(), NoMemory>
     Ok(())
 }
 
-/// The row of each reference whose file has no name any more.
-pub fn nameless_rows(namespace: &Namespace, alloc: Global) -> Result<List<RowId>, NoMemory>
+// The row of each reference whose file has no name any more.
+fn nameless_rows(namespace: &Namespace, alloc: Global) -> Result<List<RowId>, NoMemory>
     ensures { IfOk result (λ rows. rows ≡ nameless_rows namespace.now) }
 {
     let mut rows = List::new(alloc);

@@ -10,6 +10,7 @@ mod asking;
 mod binding;
 mod changes;
 mod content;
+mod counting;
 mod flat;
 mod formatting;
 mod holders;

@@ -10,6 +10,7 @@ ghost use Rattle.plain_steps.specs.WorldAnswer.{leaving, world_answer};
 
 use crate::applying::apply_all;
 use crate::formatting::mkfs;
+use crate::holders::holder_lines;
 use crate::sources::volume_named;
 use crate::stop::Stop;
 use crate::tables::{cell_files, device_lines, mount_lines};
@@ -25,6 +26,14 @@ pub fn mounts_in(world: &World, alloc: Global, session: SessionId) -> Result<Rep
 {
     let lines = mount_lines(&world.namespace, alloc)?;
     Ok(Reply::MountList { lines })
+}
+
+pub fn dentries_in(world: &World, alloc: Global, session: SessionId) -> Result<Reply, Stop>
+    requires { IsSized world.now.namespace }
+    ensures { Gives (leaving world.now) result (world_answer world.now session step.Dentries) }
+{
+    let lines = holder_lines(&world.namespace, alloc)?;
+    Ok(Reply::Holders { lines })
 }
 
 pub fn cells_in(world: &World, alloc: Global, session: SessionId) -> Result<Reply, Stop>

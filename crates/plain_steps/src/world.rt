@@ -9,7 +9,9 @@ ghost use Rattle.plain_steps.specs.Opening.{HasFewCellsEach, OpensAs, StopsOpeni
 ghost use Rattle.plain_steps.specs.Sizes.{IsSized};
 ghost use Rattle.plain_steps.specs.WorldAnswer.{is_built, leaving, world_answer};
 
-use crate::mount_steps::{cells_in, devices_in, mkfs_in, mounts_in, shut_down, umount_in};
+use crate::mount_steps::{
+    cells_in, dentries_in, devices_in, mkfs_in, mounts_in, shut_down, umount_in,
+};
 use crate::plain_fault::PlainFault;
 use crate::roms::rom_images;
 use crate::session_steps::{
@@ -216,6 +218,7 @@ fn take_step(
         Step::Map { hold } => map_in(world, alloc, session, hold),
         Step::Unmap { hold } => unmap_in(world, alloc, session, hold),
         Step::Mounts => mounts_in(world, alloc, session),
+        Step::Dentries => dentries_in(world, alloc, session),
         Step::Cells => cells_in(world, alloc, session),
         Step::Mkfs { name } => mkfs_in(world, alloc, session, name),
         Step::Devices => devices_in(world, alloc, session),
