@@ -1,6 +1,6 @@
 -- Files that a mount binds to rows.
 use Rattle.std.proofs.Common.{◌≡◌, ℕ, zero, suc, ◌+◌, ◌-◌, ◌<◌, ◌≤◌, Bool, true, false, cond, List, [], ◌∷◌, ◌++◌, length, map, refl, ap, sym, ◌∙◌, arith, slice_index_or, slice_set, nat_lt}
-use Rattle.std.specs.Prelude.{not, Option, Some, None, count_by, zip, Vec, vec_len, vec_capacity, is_some}
+use Rattle.std.specs.Prelude.{Option, Some, count_by, zip, Vec, vec_len, vec_capacity, is_some}
 use Rattle.std.specs.List.{position_or_len}
 use Rattle.std.specs.FinMap.Entries.{put}
 use Rattle.std.proofs.lemmas.Bool.Decides.{nat_tests}
@@ -15,7 +15,7 @@ use Rattle.vfs_model.specs.Content.{Content, file_count}
 use Rattle.vfs_model.specs.FileLife.{after_taking, bind_row, free_rows, is_free_row, least_free_row, next_file}
 use Rattle.vfs_model.specs.Lookup.{with_tree}
 use Rattle.vfs_model.specs.MountStep.{bind_content, origin_backing, with_entry}
-use Rattle.vfs_model.specs.Namespace.{Tree, generation_at, tree_of}
+use Rattle.vfs_model.specs.Namespace.{Tree, generation_at}
 use Rattle.vfs_model.specs.OpenStep.{kind_of}
 use Rattle.vfs_model.specs.declared.namespace.Backing.{Backing}
 use Rattle.vfs_model.specs.declared.namespace.Backing.TheVariants as backing

@@ -1,6 +1,6 @@
 -- How a mount begins, and what has passed its checks.
-use Rattle.std.proofs.Common.{◌≡◌, ℕ, ◌+◌, ◌<◌, ◌≤◌, Bool, true, false, List, [], ◌∷◌, ◌++◌, length, refl, ap, sym, ◌∙◌, arith, slice_index_or, slice_set, nat_lt}
-use Rattle.std.specs.Prelude.{nat_le, not, ◌&&◌, ◌||◌, count_by, Result, Ok, Err, Option, Some, None}
+use Rattle.std.proofs.Common.{◌≡◌, ℕ, ◌≤◌, Bool, true, false, List, [], ◌∷◌, ◌++◌, length, refl, ap, sym, ◌∙◌, arith, slice_index_or, slice_set, nat_lt}
+use Rattle.std.specs.Prelude.{nat_le, not, ◌&&◌, ◌||◌, Result, Ok, Err}
 use Rattle.std.proofs.lemmas.Bool.Decides.{nat_tests}
 use Rattle.std.proofs.lemmas.List.{set-set, set-get_or}
 use Rattle.vfs_base.specs.Path.{Path}
@@ -11,7 +11,6 @@ use Rattle.vfs_base.specs.declared.kinds.FsType.TheVariants as fs
 use Rattle.vfs_base.specs.declared.limits.TheConstants.{MOUNTS}
 use Rattle.vfs_model.specs.Chain.{◌>>◌, refuse◌when◌, refuse_by}
 use Rattle.vfs_model.specs.Content.{content_of, file_count, same_type}
-use Rattle.vfs_model.specs.FileLife.{free_rows, volume_named, with_kept}
 use Rattle.vfs_model.specs.Lookup.{has_folder_within, has_mount_below, has_nodes, is_file, is_point, is_there, walk_refusal, with_tree}
 use Rattle.vfs_model.specs.MountStep.{is_taken, is_without_source, mount_refusals, without_kept}
 use Rattle.vfs_model.specs.Namespace.{Tree, all_mounts, tree_of}

@@ -1,4 +1,4 @@
-use Rattle.std.proofs.Common.{rules, arith, ◌+◌, ◌<◌, length, refl}
+use Rattle.std.proofs.Common.{rules, arith, ◌+◌, ◌<◌, length}
 use Rattle.plain_steps.proofs.Binds.{bind_told, bound_generations, bound_lives, bound_trees}
 use Rattle.plain_steps.proofs.binding.bind_content.Goals as goal
 

@@ -1,4 +1,3 @@
-use Rattle.std.proofs.Common.{rules}
 use Rattle.plain_steps.proofs.Numbers.{number_passed}
 use Rattle.plain_steps.proofs.mounting.least_free_number.Goals as goal
 
