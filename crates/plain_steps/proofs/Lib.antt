@@ -12,6 +12,7 @@ pub mod Numbers
 pub mod Puts
 pub mod Sets
 pub mod Sized
+pub mod SizedMounts
 pub mod SizedUnmounts
 pub mod Starts
 pub mod Unmounts

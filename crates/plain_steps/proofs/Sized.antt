@@ -60,7 +60,7 @@ sized_tree n number tree s l empty = record {
       (λ e. empty (subst (λ k. is_number n k ≡ false) (sym e) h)) (s.unused other h);
 }
 
-or_second : (a b : Bool) → b ≡ true → (a || b) ≡ true
+pub or_second : (a b : Bool) → b ≡ true → (a || b) ≡ true
 or_second true b e = refl
 or_second false b e = e
 

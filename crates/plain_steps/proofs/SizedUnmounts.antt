@@ -36,7 +36,7 @@ use Rattle.plain_steps.specs.Sizes.{IsSized}
 use Rattle.plain_steps.specs.declared.stop.Stop.{Stop}
 
 -- a volume of other names, or of other spare cells
-sized_volume : (n : Namespace) (place : ℕ) (volume : VolumeState) → IsSized n →
+pub sized_volume : (n : Namespace) (place : ℕ) (volume : VolumeState) → IsSized n →
     length volume.spare ≤ 1024 → length volume.pages ≤ 1024 → length volume.kept ≤ 4096 →
     IsSized (record n { volumes = slice_set n.volumes place volume })
 sized_volume n place volume s spare pages kept = record {
@@ -140,19 +140,19 @@ emptied_tree rows mount =
     ap (λ (trees : List Tree). slice_index_or trees mount.number []) (same_trees _ (rows_of_mount rows.next mount.number))
     ∙ set_empty (keep_names rows.next mount mount.fs).trees mount.number
 
+pub neither : (a b c : Bool) → (a || b) ≡ false → (b ≡ false → c ≡ false) → (a || c) ≡ false
+neither true b c h k = absurd (cc (h))
+neither false b c h k = k h
+
 -- a number that none has after a mount went is that of an empty tree
 removed_unused : (n : Namespace) (gone : ℕ) → IsSized n → tree_of n gone ≡ [] → (number : ℕ) →
     is_number (record n { mounts = filter (λ other. not (other.number == gone)) n.mounts }) number ≡ false → tree_of n number ≡ []
 removed_unused n gone s empty number h = elim (number == gone) as (λ b. (number == gone) ≡ b → tree_of n number ≡ []) [
   | true ↦ λ e.
-    let same : number ≡ gone = grind (arith, nat_tests, e) in
-    subst (λ k. tree_of n k ≡ []) (sym same) empty
+      let same : number ≡ gone = grind (arith, nat_tests, e) in
+      subst (λ k. tree_of n k ≡ []) (sym same) empty
   | false ↦ λ e. s.unused number (neither (n.root.number == number) _ _ h (stays_unused gone number n.mounts e))
 ] refl
-  where
-    neither : (a b c : Bool) → (a || b) ≡ false → (b ≡ false → c ≡ false) → (a || c) ≡ false
-    neither true b c h k = absurd (cc (h))
-    neither false b c h k = k h
 
 sized_removed : (rows : Rows) (mount : Mount) → IsSized rows.next → IsSized (remove_mount rows mount).next
 unfolding remove_mount

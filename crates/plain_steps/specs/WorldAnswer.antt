@@ -24,6 +24,5 @@ leaving w reply = record { reply = reply; next = w }
 
 -- the steps that are built
 abbrev pub is_built : Step → Bool
-is_built (step.Mount source point fs) = false
 is_built step.Dentries = false
 is_built _ = true

@@ -8,7 +8,9 @@ ghost use Rattle.plain_steps.specs.Gives.{Gives};
 ghost use Rattle.plain_steps.specs.Sizes.{IsSized};
 ghost use Rattle.plain_steps.specs.WorldAnswer.{is_built, leaving, world_answer};
 
-use crate::mount_steps::{cells_in, devices_in, mkfs_in, mounts_in, shut_down, umount_in};
+use crate::mount_steps::{
+    cells_in, devices_in, mkfs_in, mount_in, mounts_in, shut_down, umount_in,
+};
 use crate::session_steps::{
     chdir_in, close_in, cwd_in, home_in, list_in, map_in, mkdir_in, open_in, rename_in, rmdir_in,
     stat_in, unlink_in, unmap_in,
@@ -176,6 +178,7 @@ fn take_step(
         Step::Chdir { path } => chdir_in(world, alloc, session, path),
         Step::Home => Ok(home_in(world, alloc, session)),
         Step::Cwd => cwd_in(world, alloc, session),
+        Step::Mount { source, point, fs } => mount_in(world, alloc, session, source, point, fs),
         Step::Umount { point } => umount_in(world, alloc, session, point),
         Step::Map { hold } => map_in(world, alloc, session, hold),
         Step::Unmap { hold } => unmap_in(world, alloc, session, hold),
