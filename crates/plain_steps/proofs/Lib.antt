@@ -1,6 +1,7 @@
 pub mod Binds
 pub mod Brings
 pub mod Contents
+pub mod Copies
 pub mod Entries
 pub mod Filters
 pub mod FreeRows
@@ -10,11 +11,14 @@ pub mod Made
 pub mod Moves
 pub mod Numbers
 pub mod Puts
+pub mod RomTexts
 pub mod Sets
 pub mod Sized
 pub mod SizedMounts
+pub mod SizedStart
 pub mod SizedUnmounts
 pub mod Starts
+pub mod Started
 pub mod Unmounts
 pub mod Walks
 pub mod WorldSteps

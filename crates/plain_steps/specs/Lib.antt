@@ -3,6 +3,7 @@ pub mod Gives
 pub mod Leaving
 pub mod Listing
 pub mod Mounting
+pub mod Opening
 pub mod Puts
 pub mod Rows
 pub mod Sizes

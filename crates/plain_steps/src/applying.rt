@@ -25,24 +25,13 @@ pub fn apply(world: &mut World, alloc: Global, change: Option<Change>)
     }
 }
 
-#[tactic(auto, using(crate::proofs::Contents::no_rom_no_bytes))]
+#[tactic(auto, using(crate::proofs::Contents::no_bytes_brought))]
 fn apply_change(world: &mut World, alloc: Global, change: &Change)
     requires { brings_no_bytes change.now ≡ true }
     ensures next { world.new ≡ change_row world.old (row_change change.now) }
     ensures namespace { world.new.namespace ≡ world.old.namespace }
 {
-    match change {
-        Change::Bind {
-            row,
-            generation,
-            origin,
-        } => bind_file(world, alloc, *row, *generation, origin, Bytes::new(alloc)),
-        Change::Free {
-            row,
-            generation,
-            end,
-        } => free_file(world, alloc, *row, *generation, end),
-    }
+    bring(world, alloc, change, Bytes::new(alloc));
 }
 
 /// Makes the changes, in their order. They bring no bytes from a rom.

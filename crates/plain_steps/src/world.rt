@@ -1,26 +1,30 @@
 //! The plain world: one step of it, and the marks that a step may have.
 
-ghost use Rattle.std.specs.Prelude.{◌≡◌, false, true, None, IfOk, OnErr};
+ghost use Rattle.std.specs.Prelude.{◌≡◌, false, true, None, IfOk, IfErr, OnOk, OnErr};
 ghost use Rattle.vfs_model.specs.Asking.{MayAsk};
 ghost use Rattle.vfs_model.specs.NamespaceStep.{fits_namespace, is_shutdown, namespace_step};
 ghost use Rattle.vfs_model.specs.World.{FitsStep, fits_step, namespace_part, session_of, step_row, world_step};
 ghost use Rattle.plain_steps.specs.Gives.{Gives};
+ghost use Rattle.plain_steps.specs.Opening.{HasFewCellsEach, OpensAs, StopsOpening, is_untold, rom_images};
 ghost use Rattle.plain_steps.specs.Sizes.{IsSized};
 ghost use Rattle.plain_steps.specs.WorldAnswer.{is_built, leaving, world_answer};
 
 use crate::mount_steps::{
     cells_in, devices_in, mkfs_in, mount_in, mounts_in, shut_down, umount_in,
 };
+use crate::plain_fault::PlainFault;
+use crate::roms::rom_images;
 use crate::session_steps::{
     chdir_in, close_in, cwd_in, home_in, list_in, map_in, mkdir_in, open_in, rename_in, rmdir_in,
     stat_in, unlink_in, unmap_in,
 };
+use crate::start::opening_world;
 use crate::stop::Stop;
 use crate::unmounting::may_umount;
 use plain_files::{fits_row, step_row};
 use std::alloc::Global;
 use std::marker::Model;
-use vfs_base::{Errno, Mark, NoMemory, Reply, RowId, SessionId, Step, Who};
+use vfs_base::{Deck, Describe, Errno, Mark, NoMemory, Reply, RowId, SessionId, Step, Who};
 use vfs_model::World;
 
 /// The plain world over flat lists: mounts, trees, files by row, and what lies at home.
@@ -41,6 +45,30 @@ impl Model for PlainWorld {
 }
 
 impl PlainWorld {
+    /// The world of a script at the start: its roms are read, nothing is mounted but `/`, and each
+    /// device is at home. A volume has at most 1024 cells.
+    ///
+    /// # Errors
+    /// `BadRom` with the first rom, counted from 0, whose manifest is not in its form; else `Untold`
+    /// where a character device does not tell its input; `NoMemory`.
+    #[tactic(auto, using(crate::proofs::SizedStart::sized_start), unfolding(vfs_model::specs::Homes::opening_world))]
+    pub fn open(alloc: Global, deck: &Deck, describe: &Describe) -> Result<PlainWorld, PlainFault>
+        requires { HasFewCellsEach describe.now }
+        ensures opens { IfOk result (OpensAs (rom_images 0 deck.now.roms) describe.now) }
+        ensures told { OnOk result (is_untold describe.now ≡ false) }
+        ensures fault { IfErr result (StopsOpening (rom_images 0 deck.now.roms) describe.now) }
+    {
+        let roms = match rom_images(alloc, deck.roms.as_slice()) {
+            Ok(roms) => roms,
+            Err(fault) => return Err(fault),
+        };
+        if is_untold(describe) {
+            return Err(PlainFault::Untold);
+        }
+        let world = opening_world(alloc, roms, describe)?;
+        Ok(PlainWorld { world })
+    }
+
     /// One step, with a mark that it may have. An `Err` is want of memory, and then nothing has
     /// changed.
     #[tactic(auto, unfolding(vfs_model::specs::World::world_step, vfs_model::specs::World::fits_step))]
@@ -74,6 +102,14 @@ impl PlainWorld {
             None => fits_namespace(&self.world, alloc, who, step, mark),
         }
     }
+}
+
+// Whether a character device does not tell its input.
+fn is_untold(describe: &Describe) -> bool
+    ensures { result ≡ is_untold describe.now }
+{
+    let shapes = describe.chars.as_slice();
+    shapes.iter().any(|shape| shape.input.is_none())
 }
 
 // The row of a file's step or of the worker's.
