@@ -37,7 +37,7 @@ first_true [] some = absurd (omega (arith, some))
 first_true (true ∷ tests) some = omega arith
 first_true (false ∷ tests) some = omega (arith, first_true tests some)
 
-free_length : (lives : List (Option LiveFile)) (generations : List ℕ) →
+pub free_length : (lives : List (Option LiveFile)) (generations : List ℕ) →
     length (map (λ (row : Option LiveFile × ℕ). is_free_row row.0 row.1) (zip lives generations)) ≤ length lives
 free_length [] generations = omega arith
 free_length (life ∷ lives) [] = omega arith

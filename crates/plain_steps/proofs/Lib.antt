@@ -16,6 +16,7 @@ pub mod Puts
 pub mod RomTexts
 pub mod Sets
 pub mod Sized
+pub mod SizedMounts
 pub mod SizedStart
 pub mod SizedUnmounts
 pub mod Starts

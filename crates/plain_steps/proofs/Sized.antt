@@ -1,13 +1,16 @@
 -- No step makes a namespace larger than it may be.
-use Rattle.std.proofs.Common.{◌≡◌, ℕ, zero, suc, ◌+◌, ◌-◌, ◌*◌, ◌≤◌, List, [], ◌∷◌, ◌++◌, length, drop, ◌∙◌, arith}
-use Rattle.std.specs.Prelude.{Bool, true, false, cond, not, ◌&&◌, Option, Some, None, fold, map, filter, slice_index_or, slice_set}
+use Rattle.std.proofs.Common.{◌≡◌, ℕ, zero, suc, ◌+◌, ◌-◌, ◌*◌, ◌≤◌, List, [], ◌∷◌, ◌++◌, length, drop, nat_lt, ◌==◌, refl, ap, sym, subst, ◌∙◌, arith}
+use Rattle.std.specs.Prelude.{Bool, true, false, cond, not, ◌&&◌, ◌||◌, Option, Some, None, fold, map, filter, slice_index_or, slice_set}
 use Rattle.std.specs.FinMap.Entries.{put, by_order}
+use Rattle.std.specs.List.{list_any}
 use Rattle.std.specs.declared.cmp.Ordering.TheVariants.{Less, Equal, Greater}
+use Rattle.std.proofs.lemmas.Bool.Decides.{nat_tests}
 use Rattle.std.proofs.lemmas.List.{length-set}
 use Rattle.vfs_base.specs.Path.{Path, path_cmp}
 use Rattle.vfs_base.specs.declared.kinds.NodeKind.{NodeKind}
+use Rattle.vfs_model.specs.Consistency.{is_number}
 use Rattle.vfs_model.specs.FileLife.{after_end, after_taking, bind_row, no_volume, volume_at, with_cell, with_device, with_spare_cell}
-use Rattle.vfs_model.specs.Lookup.{covering_mount, is_full, is_prefix, rest_of, with_node, with_tree}
+use Rattle.vfs_model.specs.Lookup.{covering_mount, is_full, is_prefix, nearest, rest_of, with_node, with_tree}
 use Rattle.vfs_model.specs.Namespace.{Tree, generation_at, same_path, tree_of, with_folder_of, with_reference}
 use Rattle.vfs_model.specs.RenameStep.{carried, left_behind, moved, put_entry, with_moved}
 use Rattle.vfs_model.specs.declared.namespace.Backing.{Backing}
@@ -15,6 +18,7 @@ use Rattle.vfs_model.specs.declared.namespace.Backing.TheVariants as backing
 use Rattle.vfs_model.specs.declared.namespace.End.{End}
 use Rattle.vfs_model.specs.declared.namespace.End.TheVariants as end
 use Rattle.vfs_model.specs.declared.namespace.LiveFile.{LiveFile}
+use Rattle.vfs_model.specs.declared.namespace.Mount.{Mount}
 use Rattle.vfs_model.specs.declared.namespace.Namespace.{Namespace}
 use Rattle.vfs_model.specs.declared.namespace.Reference.{Reference}
 use Rattle.plain_steps.specs.Changes.{freed}
@@ -29,8 +33,18 @@ item_kept P (x ∷ xs) zero (suc j) y d p q = q
 item_kept P (x ∷ xs) (suc i) zero y d p q = q
 item_kept P (x ∷ xs) (suc i) (suc j) y d p q = item_kept P xs i j y d p q
 
-pub sized_tree : (n : Namespace) (number : ℕ) (tree : Tree) → IsSized n → length tree ≤ 4096 → IsSized (with_tree n number tree)
-sized_tree n number tree s l = record {
+-- the same, where the write is of another place or of an item of which it holds
+pub item_kept_at : {X : Type 0} (P : X → Type 0) (xs : List X) (i j : ℕ) (y d : X) → (i ≡ j → P y) →
+    P (slice_index_or xs j d) → P (slice_index_or (slice_set xs i y) j d)
+item_kept_at P [] i j y d p q = q
+item_kept_at P (x ∷ xs) zero zero y d p q = p refl
+item_kept_at P (x ∷ xs) zero (suc j) y d p q = q
+item_kept_at P (x ∷ xs) (suc i) zero y d p q = q
+item_kept_at P (x ∷ xs) (suc i) (suc j) y d p q = item_kept_at P xs i j y d (λ e. p (ap suc e)) q
+
+pub sized_tree : (n : Namespace) (number : ℕ) (tree : Tree) → IsSized n → length tree ≤ 4096 →
+    (is_number n number ≡ false → tree ≡ []) → IsSized (with_tree n number tree)
+sized_tree n number tree s l empty = record {
   lives = s.lives;
   generations = s.generations;
   references = s.references;
@@ -42,7 +56,38 @@ sized_tree n number tree s l = record {
   pages = λ v. s.pages v;
   kept = λ v. s.kept v;
   roms = λ place. s.roms place;
+  unused = λ other h. item_kept_at (λ t. t ≡ []) n.trees number other tree []
+      (λ e. empty (subst (λ k. is_number n k ≡ false) (sym e) h)) (s.unused other h);
 }
+
+pub or_second : (a b : Bool) → b ≡ true → (a || b) ≡ true
+or_second true b e = refl
+or_second false b e = e
+
+or_beside : (a b c : Bool) → (a || c) ≡ true → (a || (b || c)) ≡ true
+or_beside true b c e = refl
+or_beside false b c e = or_second b c e
+
+-- the mount that is nearest is the first one or one of the others
+nearest_numbered : (path : Path) (found : Mount) (mounts : List Mount) →
+    list_any (λ mount. mount.number == (nearest path found mounts).number) (found ∷ mounts) ≡ true
+nearest_numbered path found [] = grind (arith, nat_tests)
+nearest_numbered path found (mount ∷ mounts) =
+    elim (is_prefix mount.point path && nat_lt (length found.point) (length mount.point)) as (λ b.
+    list_any (λ other. other.number == (nearest path (cond b mount found) mounts).number) (found ∷ mount ∷ mounts) ≡ true) [
+      | true ↦ or_second (found.number == (nearest path mount mounts).number) _ (nearest_numbered path mount mounts)
+      | false ↦ or_beside (found.number == (nearest path found mounts).number) (mount.number == (nearest path found mounts).number) _
+          (nearest_numbered path found mounts)
+    ]
+
+-- the mount that covers a path is a mount
+pub covering_numbered : (n : Namespace) (path : Path) → is_number n (covering_mount n path).number ≡ true
+unfolding covering_mount
+covering_numbered n path = nearest_numbered path n.root n.mounts
+
+-- so its tree may have nodes
+pub covered_tree : (n : Namespace) (path : Path) (tree : Tree) → is_number n (covering_mount n path).number ≡ false → tree ≡ []
+covered_tree n path tree h = let yes = covering_numbered n path in absurd (cc (yes, h))
 
 pub put_grows : {X : Type 0} (path : Path) (value : X) (entries : List (Path × X)) →
     length (put path_cmp path value entries) ≤ length entries + 1
@@ -73,6 +118,11 @@ sized_put n path new s f =
     let room : length tree + 1 ≤ 4096 = grind (arith, f) in
     let grown = put_grows (rest_of n path) new tree in
     sized_tree n number (put path_cmp (rest_of n path) new tree) s (omega (arith, room, grown))
+    (covered_tree n path (put path_cmp (rest_of n path) new tree))
+
+-- what is kept of an empty tree is empty
+pub filter_empty : (test : Path × NodeKind → Bool) (tree kept : Tree) → kept ≡ filter test tree → tree ≡ [] → kept ≡ []
+filter_empty test tree kept e h = e ∙ ap (filter test) h
 
 -- what is kept of a tree fits
 pub filter_fits : (test : Path × NodeKind → Bool) (tree kept : Tree) → kept ≡ filter test tree → length tree ≤ 4096 → length kept ≤ 4096
@@ -110,6 +160,7 @@ sized_moved n old new s =
     let parts = parts_fit (rest_of n old) (rest_of n new) tree in
     let grown = puts_grow (carried (rest_of n old) (rest_of n new) tree) (left_behind (rest_of n old) (rest_of n new) tree) in
     sized_tree n number (moved (rest_of n old) (rest_of n new) tree) s (omega (arith, parts, grown, s.trees number))
+    (covered_tree n old (moved (rest_of n old) (rest_of n new) tree))
 
 sized_cell : (is_spare : Bool) (n : Namespace) (volume cell : ℕ) → IsSized n → IsSized (with_cell is_spare n volume cell)
 sized_cell is_spare n volume cell s =
@@ -129,6 +180,7 @@ sized_cell is_spare n volume cell s =
       kept = λ v. item_kept (λ one. length one.kept ≤ 4096) n.volumes volume v (with_spare_cell is_spare cell (volume_at n volume)) no_volume
           (s.kept volume) (s.kept v);
       roms = λ place. s.roms place;
+      unused = λ number h. s.unused number h;
     }
 
 sized_device : (is_out : Bool) (n : Namespace) (device : ℕ) → IsSized n → IsSized (with_device is_out n device)
@@ -144,6 +196,7 @@ sized_device is_out n device s = record {
   pages = λ v. s.pages v;
   kept = λ v. s.kept v;
   roms = λ place. s.roms place;
+  unused = λ number h. s.unused number h;
 }
 
 sized_taking : (n : Namespace) (b : Backing) → IsSized n → IsSized (after_taking n b)
@@ -171,6 +224,7 @@ sized_rows n lives generations s l g = record {
   pages = λ v. s.pages v;
   kept = λ v. s.kept v;
   roms = λ place. s.roms place;
+  unused = λ number h. s.unused number h;
 }
 
 pub sized_bind : (n : Namespace) (row : ℕ) (life : LiveFile) → IsSized n → IsSized (bind_row n row life)
@@ -200,6 +254,7 @@ sized_reference n k number reference s =
       pages = λ v. s.pages v;
       kept = λ v. s.kept v;
       roms = λ place. s.roms place;
+      unused = λ number h. s.unused number h;
     }
 
 pub sized_folder : (n : Namespace) (k : ℕ) (path : Path) → IsSized n → IsSized (with_folder_of n k path)
@@ -217,6 +272,7 @@ sized_folder n k path s =
       pages = λ v. s.pages v;
       kept = λ v. s.kept v;
       roms = λ place. s.roms place;
+      unused = λ number h. s.unused number h;
     }
 
 pub sized_stopped : (n : Namespace) (is_stopped : Bool) → IsSized n → IsSized (record n { is_stopped = is_stopped })
@@ -232,4 +288,5 @@ sized_stopped n is_stopped s = record {
   pages = λ v. s.pages v;
   kept = λ v. s.kept v;
   roms = λ place. s.roms place;
+  unused = λ number h. s.unused number h;
 }

@@ -1,5 +1,5 @@
 -- The namespace at the start is no larger than it may be.
-use Rattle.std.proofs.Common.{ℕ, zero, suc, ◌≤◌, List, [], ◌∷◌, length, map, replicate, arith}
+use Rattle.std.proofs.Common.{◌≡◌, ℕ, zero, suc, ◌≤◌, List, [], ◌∷◌, length, map, replicate, refl, ap, arith}
 use Rattle.std.specs.Prelude.{Option, None, true, slice_index_or}
 use Rattle.std.proofs.lemmas.List.{length-replicate}
 use Rattle.vfs_base.specs.Path.{AllAre, Path}
@@ -15,10 +15,10 @@ use Rattle.vfs_model.specs.declared.namespace.VolumeState.{VolumeState}
 use Rattle.plain_steps.specs.Opening.{HasFewCells, HasFewCellsEach, IsSmallRom}
 use Rattle.plain_steps.specs.Sizes.{IsSized}
 
-copy_at : (n j : ℕ) → length (slice_index_or {A = Tree} (replicate n []) j []) ≤ 4096
-copy_at zero j = omega arith
-copy_at (suc n) zero = omega arith
-copy_at (suc n) (suc j) = copy_at n j
+empty_at : (n j : ℕ) → slice_index_or {A = Tree} (replicate n []) j [] ≡ []
+empty_at zero j = refl
+empty_at (suc n) zero = refl
+empty_at (suc n) (suc j) = empty_at n j
 
 item_at : {X : Type 0} (P : X → Type 0) (xs : List X) (i : ℕ) (d : X) → AllAre P xs → P d → P (slice_index_or xs i d)
 item_at P [] i d h p = p
@@ -42,10 +42,11 @@ sized_start roms describe small few = record {
   folders = omega (arith, length-replicate {A = Path} 8 []);
   mounts = omega arith;
   places = length-replicate {A = Tree} 16 [];
-  trees = λ j. copy_at 16 j;
+  trees = λ j. omega (arith, ap (λ (tree : Tree). length tree) (empty_at 16 j));
   spares = λ v. volume_at_start (λ volume. length volume.spare ≤ 1024) describe.volumes v few
       (λ shape h. let same = length-replicate (length shape.pages) true in omega (arith, same, h)) (omega arith);
   pages = λ v. volume_at_start (λ volume. length volume.pages ≤ 1024) describe.volumes v few (λ shape h. h) (omega arith);
   kept = λ v. volume_at_start (λ volume. length volume.kept ≤ 4096) describe.volumes v few (λ shape h. omega arith) (omega arith);
   roms = λ place. item_at IsSmallRom roms place no_rom small (omega arith);
+  unused = λ number h. empty_at 16 number;
 }

@@ -1,7 +1,8 @@
 -- Unmounting and formatting make nothing larger than it may be, and free rows only.
-use Rattle.std.proofs.Common.{◌≡◌, ℕ, ◌≤◌, List, [], ◌∷◌, ◌++◌, ◌==◌, length, map, reverse, replicate, refl, ap, sym, subst, arith}
-use Rattle.std.specs.Prelude.{Bool, true, false, not, Option, Some, None, Result, Ok, Err, IfOk, OnErr, filter, fold, slice_set}
-use Rattle.std.specs.List.{list_all}
+use Rattle.std.proofs.Common.{◌≡◌, ℕ, zero, suc, ◌≤◌, List, [], ◌∷◌, ◌++◌, ◌==◌, length, map, reverse, replicate, slice_index_or, refl, ap, sym, subst, ◌∙◌, arith}
+use Rattle.std.specs.Prelude.{Bool, true, false, cond, not, ◌||◌, Option, Some, None, Result, Ok, Err, IfOk, OnErr, filter, fold, slice_set}
+use Rattle.std.specs.List.{list_all, list_any}
+use Rattle.std.proofs.lemmas.Bool.Decides.{nat_tests}
 use Rattle.std.proofs.lemmas.List.{length-map, length-replicate}
 use Rattle.vfs_base.specs.Path.{Path}
 use Rattle.vfs_base.specs.declared.errno.Errno.{Errno}
@@ -11,12 +12,15 @@ use Rattle.vfs_base.specs.declared.reply.Reply.TheVariants as reply
 use Rattle.vfs_base.specs.declared.kinds.FsType.{FsType}
 use Rattle.vfs_base.specs.declared.kinds.FsType.TheVariants as fs
 use Rattle.vfs_model.specs.Chain.{◌>>=◌, ◌>>◌, refuse◌when◌, wanted}
-use Rattle.vfs_model.specs.FileLife.{Rows, backing_of, end_of_unmounted, free_row, no_volume, volume_at, volume_named}
+use Rattle.vfs_model.specs.Consistency.{is_number}
+use Rattle.vfs_model.specs.FileLife.{Rows, after_end, backing_of, end_of_unmounted, free_row, no_volume, volume_at, volume_named}
 use Rattle.vfs_model.specs.Lookup.{asked_path}
 use Rattle.vfs_model.specs.NameSteps.{done}
-use Rattle.vfs_model.specs.Namespace.{life_at, tree_of}
+use Rattle.vfs_model.specs.Namespace.{Tree, life_at, tree_of}
 use Rattle.vfs_model.specs.NamespaceOutcome.{NamespaceOutcome}
 use Rattle.vfs_model.specs.UmountSteps.{empty_mount, format_volume, is_busy, keep_names, kept_node, mount_at_point, remove_all, remove_mount, rows_of_mount, umount_at, umount_step}
+use Rattle.vfs_model.specs.declared.namespace.End.{End}
+use Rattle.vfs_model.specs.declared.namespace.End.TheVariants as end
 use Rattle.vfs_model.specs.declared.namespace.KeptNode.{KeptNode}
 use Rattle.vfs_model.specs.declared.namespace.Mount.{Mount}
 use Rattle.vfs_model.specs.declared.namespace.Namespace.{Namespace}
@@ -32,7 +36,7 @@ use Rattle.plain_steps.specs.Sizes.{IsSized}
 use Rattle.plain_steps.specs.declared.stop.Stop.{Stop}
 
 -- a volume of other names, or of other spare cells
-sized_volume : (n : Namespace) (place : ℕ) (volume : VolumeState) → IsSized n →
+pub sized_volume : (n : Namespace) (place : ℕ) (volume : VolumeState) → IsSized n →
     length volume.spare ≤ 1024 → length volume.pages ≤ 1024 → length volume.kept ≤ 4096 →
     IsSized (record n { volumes = slice_set n.volumes place volume })
 sized_volume n place volume s spare pages kept = record {
@@ -47,6 +51,7 @@ sized_volume n place volume s spare pages kept = record {
   pages = λ v. item_kept (λ one. length one.pages ≤ 1024) n.volumes place v volume no_volume pages (s.pages v);
   kept = λ v. item_kept (λ one. length one.kept ≤ 4096) n.volumes place v volume no_volume kept (s.kept v);
   roms = λ place. s.roms place;
+  unused = λ number h. s.unused number h;
 }
 
 pub sized_format : (n : Namespace) (place : ℕ) → IsSized n → IsSized (format_volume n place)
@@ -80,10 +85,11 @@ sized_emptied : (rows : Rows) (mount : Mount) → IsSized rows.next → IsSized 
 unfolding empty_mount
 sized_emptied rows mount s =
     sized_rows _ (rows_of_mount rows.next mount.number)
-    (sized_tree (keep_names rows.next mount mount.fs) mount.number [] (sized_names rows.next mount mount.fs s) (omega arith))
+    (sized_tree (keep_names rows.next mount mount.fs) mount.number [] (sized_names rows.next mount mount.fs s) (omega arith) (λ no. refl))
 
-sized_mounts : (n : Namespace) (mounts : List Mount) → IsSized n → length mounts ≤ 15 → IsSized (record n { mounts = mounts })
-sized_mounts n mounts s few = record {
+pub sized_mounts : (n : Namespace) (mounts : List Mount) → IsSized n → length mounts ≤ 15 →
+    ((number : ℕ) → is_number (record n { mounts = mounts }) number ≡ false → tree_of n number ≡ []) → IsSized (record n { mounts = mounts })
+sized_mounts n mounts s few unused = record {
   lives = s.lives;
   generations = s.generations;
   references = s.references;
@@ -95,7 +101,58 @@ sized_mounts n mounts s few = record {
   pages = λ v. s.pages v;
   kept = λ v. s.kept v;
   roms = λ place. s.roms place;
+  unused = unused;
 }
+
+-- where all mounts but those of one number stay, another number that none has now none had before
+stays_unused : (gone number : ℕ) (mounts : List Mount) → (number == gone) ≡ false →
+    list_any (λ mount. mount.number == number) (filter (λ other. not (other.number == gone)) mounts) ≡ false →
+    list_any (λ mount. mount.number == number) mounts ≡ false
+stays_unused gone number [] other h = refl
+stays_unused gone number (mount ∷ mounts) other h = elim (mount.number == gone) as (λ b. (mount.number == gone) ≡ b →
+    list_any (λ mount. mount.number == number) (cond (not b) (mount ∷ filter (λ other. not (other.number == gone)) mounts) (filter (λ other. not (other.number == gone)) mounts)) ≡ false →
+    list_any (λ mount. mount.number == number) (mount ∷ mounts) ≡ false) [
+      | true ↦ λ e h. grind (arith, nat_tests, e, other, stays_unused gone number mounts other h)
+      | false ↦ λ e h. grind (arith, h, stays_unused gone number mounts other)
+    ] refl h
+
+set_empty : (trees : List Tree) (number : ℕ) → slice_index_or (slice_set trees number []) number [] ≡ []
+set_empty [] number = refl
+set_empty (tree ∷ trees) zero = refl
+set_empty (tree ∷ trees) (suc number) = set_empty trees number
+
+same_trees_end : (n : Namespace) (e : End) → (after_end n e).trees ≡ n.trees
+same_trees_end n end.Nothing = refl
+same_trees_end n (end.Spare volume cell) = refl
+same_trees_end n (end.Kept volume cell) = refl
+same_trees_end n (end.Device device) = refl
+
+same_trees : (rows : Rows) (list : List ℕ) → (fold (free_row end_of_unmounted) rows list).next.trees ≡ rows.next.trees
+unfolding free_row
+same_trees rows [] = refl
+same_trees rows (row ∷ list) =
+    same_trees (free_row end_of_unmounted rows row) list
+    ∙ same_trees_end _ (end_of_unmounted (backing_of (life_at rows.next row)))
+
+emptied_tree : (rows : Rows) (mount : Mount) → tree_of (empty_mount rows mount).next mount.number ≡ []
+unfolding empty_mount
+emptied_tree rows mount =
+    ap (λ (trees : List Tree). slice_index_or trees mount.number []) (same_trees _ (rows_of_mount rows.next mount.number))
+    ∙ set_empty (keep_names rows.next mount mount.fs).trees mount.number
+
+pub neither : (a b c : Bool) → (a || b) ≡ false → (b ≡ false → c ≡ false) → (a || c) ≡ false
+neither true b c h k = absurd (cc (h))
+neither false b c h k = k h
+
+-- a number that none has after a mount went is that of an empty tree
+removed_unused : (n : Namespace) (gone : ℕ) → IsSized n → tree_of n gone ≡ [] → (number : ℕ) →
+    is_number (record n { mounts = filter (λ other. not (other.number == gone)) n.mounts }) number ≡ false → tree_of n number ≡ []
+removed_unused n gone s empty number h = elim (number == gone) as (λ b. (number == gone) ≡ b → tree_of n number ≡ []) [
+  | true ↦ λ e.
+      let same : number ≡ gone = grind (arith, nat_tests, e) in
+      subst (λ k. tree_of n k ≡ []) (sym same) empty
+  | false ↦ λ e. s.unused number (neither (n.root.number == number) _ _ h (stays_unused gone number n.mounts e))
+] refl
 
 sized_removed : (rows : Rows) (mount : Mount) → IsSized rows.next → IsSized (remove_mount rows mount).next
 unfolding remove_mount
@@ -104,6 +161,7 @@ sized_removed rows mount s =
     let small = sized_emptied rows mount s in
     let fewer = filter_shrinks (λ other. not (other.number == mount.number)) emptied.next.mounts in
     sized_mounts emptied.next (filter (λ other. not (other.number == mount.number)) emptied.next.mounts) small (omega (arith, fewer, small.mounts))
+    (removed_unused emptied.next mount.number small (emptied_tree rows mount))
 
 sized_mounts_gone : (rows : Rows) (mounts : List Mount) → IsSized rows.next → IsSized (fold remove_mount rows mounts).next
 sized_mounts_gone rows [] s = s

@@ -81,7 +81,7 @@ pub begun_so : (n m : Namespace) (mount : Mount) → m ≡ without_kept (record 
     m ≡ with_tree (with_mount n mount) mount.number []
 begun_so n m mount e = e ∙ beside_tree (record n { mounts = n.mounts ++ mount ∷ [] }) mount.number [] mount.fs mount.source
 
-trees_of_mount : (n : Namespace) (asked : FsType) (source : List ℕ) → (without_kept n asked source).trees ≡ n.trees
+pub trees_of_mount : (n : Namespace) (asked : FsType) (source : List ℕ) → (without_kept n asked source).trees ≡ n.trees
 trees_of_mount n fs.Tmp source = refl
 trees_of_mount n fs.Rom source = refl
 trees_of_mount n fs.Cell source = refl

@@ -1,5 +1,6 @@
 -- How many items the lists of a namespace have.
-use Rattle.std.specs.Prelude.{◌≡◌, ℕ, ◌≤◌, length, slice_index_or}
+use Rattle.std.specs.Prelude.{◌≡◌, ℕ, ◌≤◌, false, [], length, slice_index_or}
+use Rattle.vfs_model.specs.Consistency.{is_number}
 use Rattle.vfs_model.specs.Content.{no_rom}
 use Rattle.vfs_model.specs.FileLife.{volume_at}
 use Rattle.vfs_model.specs.Namespace.{tree_of}
@@ -18,3 +19,5 @@ pub record IsSized (n : Namespace) : Type 0 where
   pub pages : (volume : ℕ) → length (volume_at n volume).pages ≤ 1024
   pub kept : (volume : ℕ) → length (volume_at n volume).kept ≤ 4096
   pub roms : (place : ℕ) → length (slice_index_or n.roms place no_rom).nodes ≤ 4096
+  -- a number that no mount has is that of an empty tree
+  pub unused : (number : ℕ) → is_number n number ≡ false → tree_of n number ≡ []

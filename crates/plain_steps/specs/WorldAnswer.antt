@@ -1,9 +1,8 @@
 -- What a session's step answers and makes of the world where neither a device nor memory fails.
-use Rattle.std.specs.Prelude.{ℕ, Bool, true, false, Result, Ok, Err}
+use Rattle.std.specs.Prelude.{ℕ, Result, Ok, Err}
 use Rattle.vfs_base.specs.declared.errno.Errno.{Errno}
 use Rattle.vfs_base.specs.declared.reply.Reply.{Reply}
 use Rattle.vfs_base.specs.declared.step.Step.{Step}
-use Rattle.vfs_base.specs.declared.step.Step.TheVariants as step
 use Rattle.vfs_model.specs.NamespaceOutcome.{NamespaceOutcome}
 use Rattle.vfs_model.specs.NamespaceStep.{namespace_answer}
 use Rattle.vfs_model.specs.World.{WorldOutcome, namespace_part}
@@ -21,8 +20,3 @@ world_answer w k asked = with_rows w asked (namespace_answer w.namespace k asked
 -- a reply, and the world that it leaves
 abbrev pub leaving : World → Reply → WorldOutcome
 leaving w reply = record { reply = reply; next = w }
-
--- the steps that are built
-abbrev pub is_built : Step → Bool
-is_built (step.Mount source point fs) = false
-is_built _ = true

@@ -8,9 +8,10 @@ ghost use Rattle.plain_steps.specs.Gives.{Gives};
 ghost use Rattle.plain_steps.specs.Sizes.{IsSized};
 ghost use Rattle.plain_steps.specs.WorldAnswer.{leaving, world_answer};
 
-use crate::applying::apply_all;
+use crate::applying::{apply_all, apply_with};
 use crate::formatting::mkfs;
 use crate::holders::holder_lines;
+use crate::mounting::{Mounted, mount};
 use crate::sources::volume_named;
 use crate::stop::Stop;
 use crate::tables::{cell_files, device_lines, mount_lines};
@@ -63,6 +64,31 @@ pub fn mkfs_in(
     mkfs(&mut world.namespace, alloc, name)?;
     let volume = volume_named(&world.namespace, name.as_slice());
     empty_cells(&mut world.homes, alloc, volume);
+    Ok(Reply::Done)
+}
+
+pub fn mount_in(
+    world: &mut World,
+    alloc: Global,
+    session: SessionId,
+    source: &Bytes,
+    point: &Bytes,
+    fs: &Bytes,
+) -> Result<Reply, Stop>
+    requires { IsSized world.old.namespace }
+    ensures told { Gives (leaving world.new) result (world_answer world.old session (step.Mount source.now point.now fs.now)) }
+    ensures err { OnErr result (world.new ≡ world.old) }
+    ensures sized { IsSized world.new.namespace }
+{
+    let Mounted { changes, contents } = mount(
+        &mut world.namespace,
+        alloc,
+        session,
+        source,
+        point,
+        fs,
+    )?;
+    apply_with(world, alloc, &changes, contents);
     Ok(Reply::Done)
 }
 

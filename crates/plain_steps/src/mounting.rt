@@ -211,6 +211,24 @@ pub fn mount(
     ensures contents { IfOk result (λ mounted. mounted.contents ≡ contents_of namespace.old.roms (map row_change mounted.changes)) }
     ensures told { Gives (λ mounted. record { reply = reply.Done; next = namespace.new; changes = map row_change mounted.changes }) result (mount_step namespace.old session source.now point.now fs.now) }
     ensures err { OnErr result (namespace.new ≡ namespace.old) }
+    ensures roms { namespace.new.roms ≡ namespace.old.roms }
+    ensures sized { IsSized namespace.new }
+{
+    mount_source(namespace, alloc, session, source, point, fs)
+}
+
+fn mount_source(
+    namespace: &mut Namespace,
+    alloc: Global,
+    session: SessionId,
+    source: &Bytes,
+    point: &Bytes,
+    fs: &Bytes,
+) -> Result<Mounted, Stop>
+    requires { IsSized namespace.old }
+    ensures contents { IfOk result (λ mounted. mounted.contents ≡ contents_of namespace.old.roms (map row_change mounted.changes)) }
+    ensures told { Gives (λ mounted. record { reply = reply.Done; next = namespace.new; changes = map row_change mounted.changes }) result (mount_step namespace.old session source.now point.now fs.now) }
+    ensures err { OnErr result (namespace.new ≡ namespace.old) }
 {
     let path = asked_path(namespace, alloc, session, point)?;
     let Some(fs) = fs_type_of(fs.as_slice()) else {

@@ -7,10 +7,10 @@ ghost use Rattle.vfs_model.specs.World.{FitsStep, fits_step, namespace_part, ses
 ghost use Rattle.plain_steps.specs.Gives.{Gives};
 ghost use Rattle.plain_steps.specs.Opening.{HasFewCellsEach, OpensAs, StopsOpening, is_untold, rom_images};
 ghost use Rattle.plain_steps.specs.Sizes.{IsSized};
-ghost use Rattle.plain_steps.specs.WorldAnswer.{is_built, leaving, world_answer};
+ghost use Rattle.plain_steps.specs.WorldAnswer.{leaving, world_answer};
 
 use crate::mount_steps::{
-    cells_in, dentries_in, devices_in, mkfs_in, mounts_in, shut_down, umount_in,
+    cells_in, dentries_in, devices_in, mkfs_in, mount_in, mounts_in, shut_down, umount_in,
 };
 use crate::plain_fault::PlainFault;
 use crate::roms::rom_images;
@@ -81,7 +81,6 @@ impl PlainWorld {
     ) -> Result<Reply, NoMemory>
         requires asks { MayAsk self.old who step.now }
         requires fits { FitsStep self.old who step.now mark }
-        requires built { is_built step.now ≡ true }
         ensures ok { IfOk result (λ reply. world_step self.old who step.now mark ≡ leaving self.new reply) }
         ensures err { OnErr result (self.new ≡ self.old) }
     {
@@ -147,7 +146,6 @@ fn step_namespace(
     requires sized { IsSized world.old.namespace }
     requires asks { MayAsk world.old who step.now }
     requires row { step_row step.now ≡ None }
-    requires built { is_built step.now ≡ true }
     ensures ok { IfOk result (λ reply. namespace_part world.old (namespace_step world.old.namespace (session_of who) step.now mark) step.now ≡ leaving world.new reply) }
     ensures err { OnErr result (world.new ≡ world.old) }
     ensures sized { IsSized world.new.namespace }
@@ -172,7 +170,6 @@ fn session_step(
 ) -> Result<Reply, NoMemory>
     requires sized { IsSized world.old.namespace }
     requires goes_on { is_shutdown step.now ≡ false }
-    requires built { is_built step.now ≡ true }
     ensures ok { IfOk result (λ reply. namespace_part world.old (namespace_step world.old.namespace session step.now mark) step.now ≡ leaving world.new reply) }
     ensures err { OnErr result (world.new ≡ world.old) }
     ensures sized { IsSized world.new.namespace }
@@ -197,7 +194,6 @@ fn take_step(
     step: &Step,
 ) -> Result<Reply, Stop>
     requires sized { IsSized world.old.namespace }
-    requires built { is_built step.now ≡ true }
     ensures told { Gives (leaving world.new) result (world_answer world.old session step.now) }
     ensures err { OnErr result (world.new ≡ world.old) }
     ensures sized { IsSized world.new.namespace }
@@ -214,6 +210,7 @@ fn take_step(
         Step::Chdir { path } => chdir_in(world, alloc, session, path),
         Step::Home => Ok(home_in(world, alloc, session)),
         Step::Cwd => cwd_in(world, alloc, session),
+        Step::Mount { source, point, fs } => mount_in(world, alloc, session, source, point, fs),
         Step::Umount { point } => umount_in(world, alloc, session, point),
         Step::Map { hold } => map_in(world, alloc, session, hold),
         Step::Unmap { hold } => unmap_in(world, alloc, session, hold),
