@@ -1,6 +1,6 @@
 //! The tree of a rom.
 
-ghost use Rattle.std.specs.Prelude.{◌≡◌, length, option_map, slice_get};
+ghost use Rattle.std.specs.Prelude.{◌≡◌, ◌≤◌, length, option_map, slice_get};
 ghost use Rattle.std.specs.List.Sorted.{IsBinarySearchResult, IsSearchInRange};
 ghost use Rattle.std.specs.Option.{option_and_then, option_copied};
 ghost use Rattle.vfs_base.specs.Path.{path_cmp};
@@ -52,6 +52,14 @@ impl RomTree {
         ensures is_rom { IsRom self.now }
     {
         self.items.as_slice()
+    }
+
+    /// The number of paths, at most `NODES`.
+    pub fn len(&self) -> usize
+        ensures value { result ≡ length self.now }
+        ensures most { result ≤ 4096 }
+    {
+        self.items.len()
     }
 
     /// What stands at the path, or `None` where nothing does. The root is no path of a rom.
