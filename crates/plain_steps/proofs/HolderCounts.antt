@@ -1,11 +1,11 @@
 -- How many paths and rows of holders there are at most.
-use Rattle.std.proofs.Common.{◌≡◌, ℕ, ◌+◌, ◌*◌, ◌≤◌, List, [], ◌∷◌, ◌++◌, length, map, arith}
-use Rattle.std.specs.Prelude.{Option, Some, None, not, filter, Bool, true, false, cond}
+use Rattle.std.proofs.Common.{◌≡◌, ◌+◌, ◌*◌, ◌≤◌, List, [], ◌∷◌, ◌++◌, length, map, arith}
+use Rattle.std.specs.Prelude.{Option, Some, None, not, true, false, cond}
 use Rattle.std.specs.List.{cons_option, filter_map, flat_map}
 use Rattle.std.proofs.lemmas.List.{length-append, length-map}
 use Rattle.vfs_base.specs.Path.{Path}
 use Rattle.vfs_model.specs.FileLife.{is_linked}
-use Rattle.vfs_model.specs.Holders.{holder_paths, nameless_row, nameless_rows, path_in_mount, paths_of_row, reference_paths}
+use Rattle.vfs_model.specs.Holders.{holder_paths, nameless_row, nameless_rows, path_in_mount, reference_paths}
 use Rattle.vfs_model.specs.Namespace.{all_mounts}
 use Rattle.vfs_model.specs.declared.namespace.Mount.{Mount}
 use Rattle.vfs_model.specs.declared.namespace.Namespace.{Namespace}

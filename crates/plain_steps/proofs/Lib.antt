@@ -1,5 +1,6 @@
 pub mod Binds
 pub mod Brings
+pub mod ContentSizes
 pub mod Contents
 pub mod Copies
 pub mod Counts

@@ -18,21 +18,31 @@ mod leaving;
 mod listing;
 mod lookup;
 mod mount_steps;
+#[cfg(test)]
+mod mount_tests;
 mod mounting;
 mod moving;
 mod naming;
 mod nodes;
 mod opening;
 mod plain_fault;
+#[cfg(test)]
+mod printing;
 mod references;
 mod roms;
 mod rows;
 mod session_steps;
 mod sources;
 mod start;
+#[cfg(test)]
+mod stepping;
 mod stop;
 mod tables;
+#[cfg(test)]
+mod tests;
 mod trees;
+#[cfg(test)]
+mod trial;
 mod unmounting;
 mod world;
 

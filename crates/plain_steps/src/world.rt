@@ -30,7 +30,7 @@ use vfs_model::World;
 /// The plain world over flat lists: mounts, trees, files by row, and what lies at home.
 #[derive(Drop)]
 pub struct PlainWorld {
-    world: World,
+    pub(crate) world: World,
 }
 
 impl Model for PlainWorld {

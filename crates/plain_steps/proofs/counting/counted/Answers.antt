@@ -1,7 +1,7 @@
-use Rattle.std.proofs.Common.{rules, ◌≡◌, ◌≤◌, length, ℕ, ◌+◌, List, [], ◌∷◌, All, subst, sym, fold, arith, ap, ◌∙◌}
+use Rattle.std.proofs.Common.{rules, ◌≡◌, ◌≤◌, length, ◌+◌, ◌∷◌, All, subst, sym, arith, ap}
 use Rattle.std.specs.Map.{values_of}
 use Rattle.std.specs.Vec.Iter.{into_iter_items}
-use Rattle.vfs_model.specs.Holders.{count_one, counted}
+use Rattle.vfs_model.specs.Holders.{count_one}
 use Rattle.plain_steps.proofs.Counts.{counts_fit}
 use Rattle.plain_steps.proofs.counting.counted.Goals as goal
 
