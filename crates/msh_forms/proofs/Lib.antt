@@ -1,0 +1,3 @@
+pub mod LastByte
+pub mod CommaParts
+pub mod Bits
