@@ -116,7 +116,7 @@ fn push_holders(out: &mut Bytes, alloc: Global, lines: &[HolderLine]) -> Result<
 fn push_place(out: &mut Bytes, alloc: Global, place: &HolderPlace) -> Result<(), NoMemory> {
     match place {
         HolderPlace::At { path } => push_printed(out, path),
-        HolderPlace::Row { row } => push_field(out, alloc, b"row ", u64::from(row.number())),
+        HolderPlace::Row { row } => push_field(out, alloc, b"slot ", u64::from(row.number())),
     }
 }
 

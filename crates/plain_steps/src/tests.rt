@@ -133,10 +133,10 @@ fn files_are_opened_mapped_and_given_up(rt: HostRuntime) -> Result<(), Fail> {
         1 close 1 1 = EBADF
         1 dentries = / 9;/f 2;
         1 unlink /f = done
-        1 dentries = / 9;row 1 2;
+        1 dentries = / 9;slot 1 2;
         1 close 1 2 = done
         1 size = size 0
-        1 dentries = / 9;row 1 1;
+        1 dentries = / 9;slot 1 1;
         1 unmap 1 3 = done
         1 size = ENOENT
         1 dentries = / 9;
@@ -186,7 +186,7 @@ fn a_rename_moves_all_below(rt: HostRuntime) -> Result<(), Fail> {
         1 stat /a/b = ENOENT
         1 rename /f /g = done
         1 stat /g = file 1.1 tmp
-        1 dentries = / 9;/g 1;row 2 1;
+        1 dentries = / 9;/g 1;slot 2 1;
         1 rename /g /e/h = done
         1 list /e = /e b/ h
     ",
