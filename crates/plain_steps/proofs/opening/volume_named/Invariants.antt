@@ -1,0 +1,10 @@
+use Rattle.std.proofs.Common.{◌≡◌, ◌+◌, drop}
+use Rattle.std.specs.List.{position_or_len}
+use Rattle.vfs_model.specs.Namespace.{same_bytes}
+use Rattle.plain_steps.proofs.opening.volume_named.Given as goal
+
+abbrev pub invariant-loop-volume : goal.invariant-loop-volume
+invariant-loop-volume l =
+    (l.place ≡ l.volume-index)
+    × (l.place + position_or_len (λ volume. same_bytes volume.name l.name) (drop l.volume-index l.namespace.volumes)
+    ≡ position_or_len (λ volume. same_bytes volume.name l.name) l.namespace.volumes)
