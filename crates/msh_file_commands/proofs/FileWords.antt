@@ -1,23 +1,22 @@
 -- What the words of a command of open files do to the shell's state, and what a descriptor's close leads to.
-use Rattle.std.proofs.Common.{◌≡◌, ℕ, ℤ, ◌*◌, min, nat_lt, length, List, [], ◌∷◌, Option, Some, None, Result, Ok, Err, refl, subst, codes, arith, option_map}
+use Rattle.std.proofs.Common.{◌≡◌, ℕ, ℤ, ◌*◌, min, nat_lt, length, List, [], ◌∷◌, Option, Some, None, Result, Ok, Err, refl, codes, arith}
 use Rattle.std.proofs.lemmas.Bool.Decides.{nat_tests}
 use Rattle.vfs_base.specs.declared.errno.Errno.{Errno}
 use Rattle.vfs_base.specs.declared.errno.Errno.TheVariants as errno
 use Rattle.vfs_base.specs.declared.flags.OpenFlags.{OpenFlags}
-use Rattle.vfs_base.specs.declared.ids.HoldId.{HoldId}
 use Rattle.vfs_base.specs.declared.reply.Reply.{Reply}
 use Rattle.vfs_base.specs.declared.step.Step.TheVariants as step
 use Rattle.vfs_model.specs.Chain.{refuse◌when◌}
 use Rattle.vfs_model.specs.CommandText.{fails}
 use Rattle.vfs_model.specs.CommandWords.{flags_of, meaning, number_of}
 use Rattle.vfs_model.specs.FileCommands.{cut_checks, cut_file, fsync, ftruncate, ftruncate_form, lseek_file, placed_file, read, read_checks, read_file, read_form, seek_sized, sync_file, write, write_checks, write_file, write_form}
-use Rattle.vfs_model.specs.OpenCommands.{close_descriptor, close_last, close_replied, open_form, open_path, open_words, with_open_files}
-use Rattle.vfs_model.specs.OpenFiles.{Closed, close_file, has_all_descriptors, open_file}
-use Rattle.vfs_model.specs.Talk.{Talk, ask, checked, shows}
+use Rattle.vfs_model.specs.FolderCommands.{done_or_fails}
+use Rattle.vfs_model.specs.OpenCommands.{close_descriptor, open_form, open_path, open_words, with_open_files}
+use Rattle.vfs_model.specs.OpenFiles.{close_file, has_all_descriptors, open_file}
+use Rattle.vfs_model.specs.Talk.{Talk, ask, ask_holding, checked, shows}
 use Rattle.vfs_model.specs.declared.shell_state.OpenFile.{OpenFile}
 use Rattle.vfs_model.specs.declared.shell_state.OpenFiles.{OpenFiles}
 use Rattle.vfs_model.specs.declared.shell_state.ShellState.{ShellState}
-use Rattle.msh_file_commands.specs.FileTalks.{close_asked, closed_or_same, last_file}
 
 -- the beginning of the talk keeps the state
 abbrev Keeps : Talk → Type 0
@@ -91,36 +90,18 @@ sync_keeps [] state = refl
 sync_keeps (word ∷ []) state = meaning_keeps (codes "fsync FD") (number_of word) (sync_file word) (sync_file_keeps word) state
 sync_keeps (word ∷ more ∷ words) state = refl
 
-asks_last : (word : List ℕ) (left : OpenFiles) (last : Option OpenFile) (hold : HoldId) → option_map (λ file. file.hold) last ≡ Some hold →
-    (state : ShellState) (later : List Reply) → close_last word left last state later ≡ ask (step.Close hold) (close_replied word left) state later
-asks_last word left None hold same state later = search
-asks_last word left (Some file) hold same state later =
-    let its : file.hold ≡ hold = search in rw its refl
-
-asks_found : (word : List ℕ) (found : Result Closed Errno) (hold : HoldId) → option_map (λ file. file.hold) (last_file found) ≡ Some hold →
-    (state : ShellState) (later : List Reply) →
-    checked (fails (codes "close") word) found (λ closed. close_last word closed.open_files closed.last) state later
-    ≡ ask (step.Close hold) (close_replied word (closed_or_same state.open_files found)) state later
-asks_found word (Ok closed) hold same state later = asks_last word closed.open_files closed.last hold same state later
-asks_found word (Err errno) hold same state later = search
-
-pub close_asks : (word : List ℕ) (fd : ℕ) (state : ShellState) (hold : HoldId) →
-    option_map (λ file. file.hold) (last_file (close_file state.open_files fd)) ≡ Some hold →
-    (later : List Reply) → close_descriptor word fd state later ≡ close_asked word fd hold state later
-close_asks word fd state hold same later = asks_found word (close_file state.open_files fd) hold same state later
-
-no_last : (last : Option OpenFile) → option_map (λ file. file.hold) last ≡ None → last ≡ None
-no_last None same = refl
-no_last (Some file) same = search
+-- the last descriptor of an open file is given up, and its Close is asked
+pub close_asks : (word : List ℕ) (fd : ℕ) (state : ShellState) (file : OpenFile) (left : OpenFiles) →
+    close_file state.open_files fd ≡ Ok (record { last = Some file; open_files = left }) →
+    (later : List Reply) → close_descriptor word fd state later
+    ≡ ask_holding (step.Close file.hold ∷ []) (step.Close file.hold) (done_or_fails (codes "close") word) (with_open_files left state) later
+close_asks word fd state file left closed later = rw closed refl
 
 -- the open file stays with a further descriptor
-pub close_goes : (word : List ℕ) (fd : ℕ) (state : ShellState) (last : Option OpenFile) (left : OpenFiles) →
-    close_file state.open_files fd ≡ Ok (record { last = last; open_files = left }) →
-    option_map (λ file. file.hold) (last_file (close_file state.open_files fd)) ≡ None →
+pub close_goes : (word : List ℕ) (fd : ℕ) (state : ShellState) (left : OpenFiles) →
+    close_file state.open_files fd ≡ Ok (record { last = None; open_files = left }) →
     (later : List Reply) → close_descriptor word fd state later ≡ shows [] (with_open_files left state) later
-close_goes word fd state last left closed same later =
-    let none = no_last last (subst (λ found. option_map (λ file. file.hold) (last_file found) ≡ None) closed same) in
-    rw closed (rw none refl)
+close_goes word fd state left closed later = rw closed refl
 
 saturated : (size : ℕ) → nat_lt 1048576 (min size 18446744073709551615) ≡ nat_lt 1048576 size
 saturated size = grind (arith, nat_tests)

@@ -1,11 +1,11 @@
--- No command of mappings has a reference that no mapping has.
+-- Behind a reply no command of mappings has a reference that no mapping has.
 use Rattle.std.proofs.Common.{◌≡◌, ◌++◌, ℕ, List, [], ◌∷◌, Option, Result, Ok, Err, refl, codes, decimal}
 use Rattle.vfs_base.specs.declared.errno.Errno.{Errno}
 use Rattle.vfs_base.specs.declared.reply.Reply.{Reply}
 use Rattle.vfs_base.specs.declared.reply.Reply.TheVariants as reply
 use Rattle.vfs_model.specs.CommandText.{fails, line}
 use Rattle.vfs_model.specs.FolderCommands.{done_or_fails}
-use Rattle.vfs_model.specs.MappingCommands.{load_replied, map_replied, store_replied, unmap_replied, with_mappings}
+use Rattle.vfs_model.specs.MappingCommands.{load_replied, map_replied, store_replied, with_mappings}
 use Rattle.vfs_model.specs.Mappings.{NewMapping, add_mapping}
 use Rattle.vfs_model.specs.Talk.{Talk, changing, checked, shows}
 use Rattle.vfs_model.specs.declared.shell_state.ShellState.{ShellState}
@@ -44,15 +44,10 @@ store_owns word (reply.Count n end) state = refl
 store_owns word (reply.Refused errno) state = refl
 store_owns word _ state = refl
 
-unmap_owns : (word : List ℕ) (left : List (Option Window)) (reply : Reply) (state : ShellState) → OwnsNone (unmap_replied word left reply) state
-unmap_owns word left reply.Done state = refl
-unmap_owns word left (reply.Refused errno) state = refl
-unmap_owns word left _ state = refl
-
 pub reply_owns : (c : MappingCommand) (reply : Reply) (state : ShellState) → (mapping_talk c state (reply ∷ [])).own ≡ []
 reply_owns (command.Shown text) reply state = refl
 reply_owns (command.Map word part) reply state = map_owns word part reply state
 reply_owns (command.Load word file place len) reply state = load_owns word reply state
 reply_owns (command.Store word file place bytes) reply state = store_owns word reply state
 reply_owns (command.Sync word file) reply state = done_owns (codes "msync") word reply state
-reply_owns (command.Unmap word number hold) reply state = unmap_owns word _ reply state
+reply_owns (command.Unmap word hold) reply state = done_owns (codes "munmap") word reply state

@@ -1,25 +1,24 @@
 //! How a command of open files begins: by its name and the words behind it. `dup`, `lseek` from the
 //! beginning or the place, and `close` of a further descriptor change the desk at once.
 
-ghost use Rattle.std.specs.Prelude.{◌≡◌, IfOk, IfErr, OnErr, Ok, Err, option_map};
+ghost use Rattle.std.specs.Prelude.{◌≡◌, IfOk, IfErr, OnOk, OnErr, Ok, Err};
 ghost use Rattle.vfs_model.specs.CommandText.{usage as usage_talk};
 ghost use Rattle.vfs_model.specs.CommandWords.{meaning};
 ghost use Rattle.vfs_model.specs.FileCommands.{cut_checks as cut_checks_of, cut_file as cut_talk, file_command as file_command_talk, fsync as fsync_talk, ftruncate as ftruncate_talk, lseek as lseek_talk, lseek_file, lseek_form, placed_file as placed_file_of, read as read_words_talk, read_checks as read_checks_of, read_file as read_talk, seek_from as seek_from_talk, seek_place as seek_place_talk, seek_sized, sync_file as sync_talk, write as write_words_talk, write_checks as write_checks_of, write_file as write_talk};
 ghost use Rattle.vfs_model.specs.OpenCommands.{close as close_words_talk, close_descriptor as close_talk, dup as dup_words_talk, dup_descriptor as dup_talk, open_path as open_path_talk, open_words as open_talk};
-ghost use Rattle.vfs_model.specs.OpenFiles.{close_file, open_file as open_file_of};
+ghost use Rattle.vfs_model.specs.OpenFiles.{open_file as open_file_of};
 ghost use Rattle.vfs_model.specs.Talk.{ask};
 ghost use Rattle.vfs_base.specs.declared.step.Step.TheVariants.{Size};
-ghost use Rattle.msh_file_commands.specs.FileTalks.{BeginsFile, GoesOn, begun_state, file_talk, last_file, state_behind};
+ghost use Rattle.msh_file_commands.specs.FileTalks.{BeginsFile, GoesOn, begun_state, file_talk, state_behind};
 ghost use Rattle.msh_desk.specs.State.{state_of};
 
 use crate::files::{FileCommand, failed, seek_place, shown, told_descriptor};
-use crate::placed_file::PlacedFile;
 use fd_table::FdTable;
 use msh_desk::{Desk, copy_word, three_words};
 use msh_forms::{is_word, read_flags, read_number, read_offset, usage_text};
 use std::alloc::Global;
-use vfs_base::{Bytes, Errno, HoldId, Kind, NoMemory, OpenFlags, READ_MAX, WRITE_MAX};
-use vfs_model::Whence;
+use vfs_base::{Bytes, Errno, Kind, NoMemory, OpenFlags, READ_MAX, WRITE_MAX};
+use vfs_model::{OpenFile, Whence};
 
 // The words are not those of the form.
 fn usage(alloc: Global, form: &[u8]) -> Result<FileCommand, NoMemory>
@@ -58,23 +57,23 @@ fn open(alloc: Global, words: &[Bytes], desk: &Desk) -> Result<FileCommand, NoMe
 }
 
 /// The open file of a descriptor; `EBADF` where there is none (POSIX.1-2017, read).
-pub fn open_file(fds: &FdTable, fd: u64) -> Result<PlacedFile, Errno>
-    ensures ok { IfOk result (λ opened. open_file_of fds.now fd ≡ Ok opened.file) }
+pub fn open_file(fds: &FdTable, fd: u64) -> Result<OpenFile, Errno>
+    ensures ok { IfOk result (λ opened. open_file_of fds.now fd ≡ Ok opened) }
     ensures err { IfErr result (λ errno. open_file_of fds.now fd ≡ Err errno) }
 {
     match fds.get(fd) {
-        Ok(file) => Ok(PlacedFile { file: *file }),
+        Ok(file) => Ok(*file),
         Err(fault) => Err(fault.errno()),
     }
 }
 
 // The open file of a descriptor, to read so many bytes.
-fn read_checks(fds: &FdTable, fd: u64, n: u64) -> Result<PlacedFile, Errno>
-    ensures ok { IfOk result (λ opened. read_checks_of fds.now fd n ≡ Ok opened.file) }
+fn read_checks(fds: &FdTable, fd: u64, n: u64) -> Result<OpenFile, Errno>
+    ensures ok { IfOk result (λ opened. read_checks_of fds.now fd n ≡ Ok opened) }
     ensures err { IfErr result (λ errno. read_checks_of fds.now fd n ≡ Err errno) }
 {
     let opened = open_file(fds, fd)?;
-    if !opened.file.reads {
+    if !opened.reads {
         return Err(Errno::EBADF);
     }
     if READ_MAX < n {
@@ -119,12 +118,12 @@ fn read(alloc: Global, words: &[Bytes], desk: &Desk) -> Result<FileCommand, NoMe
 }
 
 // The open file of a descriptor, to write so many bytes.
-fn write_checks(fds: &FdTable, fd: u64, size: u64) -> Result<PlacedFile, Errno>
-    ensures ok { IfOk result (λ opened. write_checks_of fds.now fd size ≡ Ok opened.file) }
+fn write_checks(fds: &FdTable, fd: u64, size: u64) -> Result<OpenFile, Errno>
+    ensures ok { IfOk result (λ opened. write_checks_of fds.now fd size ≡ Ok opened) }
     ensures err { IfErr result (λ errno. write_checks_of fds.now fd size ≡ Err errno) }
 {
     let opened = open_file(fds, fd)?;
-    if !opened.file.writes {
+    if !opened.writes {
         return Err(Errno::EBADF);
     }
     if WRITE_MAX < size {
@@ -180,12 +179,12 @@ fn write(alloc: Global, words: &[Bytes], desk: &Desk) -> Result<FileCommand, NoM
 }
 
 // The open file of a descriptor that has a place.
-fn placed_file(fds: &FdTable, fd: u64) -> Result<PlacedFile, Errno>
-    ensures ok { IfOk result (λ opened. placed_file_of fds.now fd ≡ Ok opened.file) }
+fn placed_file(fds: &FdTable, fd: u64) -> Result<OpenFile, Errno>
+    ensures ok { IfOk result (λ opened. placed_file_of fds.now fd ≡ Ok opened) }
     ensures err { IfErr result (λ errno. placed_file_of fds.now fd ≡ Err errno) }
 {
     let opened = open_file(fds, fd)?;
-    if matches!(opened.file.kind, Kind::Chr) {
+    if matches!(opened.kind, Kind::Chr) {
         return Err(Errno::ESPIPE);
     }
     Ok(opened)
@@ -227,7 +226,7 @@ fn seek_end(
                 word,
                 fd,
                 off,
-                file: opened.file.file,
+                file: opened.file,
             })
         }
         Err(errno) => failed(alloc, b"lseek", word, errno),
@@ -304,12 +303,12 @@ fn dup(alloc: Global, words: &[Bytes], desk: &mut Desk) -> Result<FileCommand, N
 }
 
 // The open file of a descriptor, to cut it.
-fn cut_checks(fds: &FdTable, fd: u64) -> Result<PlacedFile, Errno>
-    ensures ok { IfOk result (λ opened. cut_checks_of fds.now fd ≡ Ok opened.file) }
+fn cut_checks(fds: &FdTable, fd: u64) -> Result<OpenFile, Errno>
+    ensures ok { IfOk result (λ opened. cut_checks_of fds.now fd ≡ Ok opened) }
     ensures err { IfErr result (λ errno. cut_checks_of fds.now fd ≡ Err errno) }
 {
     let opened = open_file(fds, fd)?;
-    if !opened.file.writes {
+    if !opened.writes {
         return Err(Errno::EINVAL);
     }
     Ok(opened)
@@ -329,7 +328,7 @@ fn cut_file(
             let word = copy_word(alloc, word)?;
             Ok(FileCommand::Cut {
                 word,
-                file: opened.file.file,
+                file: opened.file,
                 len,
             })
         }
@@ -357,7 +356,7 @@ fn sync_file(alloc: Global, word: &Bytes, fd: u64, desk: &Desk) -> Result<FileCo
             let word = copy_word(alloc, word)?;
             Ok(FileCommand::Sync {
                 word,
-                file: opened.file.file,
+                file: opened.file,
             })
         }
         Err(errno) => failed(alloc, b"fsync", word, errno),
@@ -376,21 +375,7 @@ fn fsync(alloc: Global, words: &[Bytes], desk: &Desk) -> Result<FileCommand, NoM
     }
 }
 
-// The reference that is given up with this descriptor: where it is the last of its open file.
-#[tactic(auto, unfolding(vfs_model::specs::OpenFiles::close_file))]
-fn last_hold(fds: &FdTable, fd: u64) -> Option<HoldId>
-    ensures { result ≡ option_map (λ file. file.hold) (last_file (close_file fds.now fd)) }
-{
-    if !fds.is_last(fd) {
-        return None;
-    }
-    match fds.get(fd) {
-        Ok(file) => Some(file.hold),
-        Err(_) => None,
-    }
-}
-
-// A further descriptor goes without a step.
+// The descriptor is given up at once; with the last one of its open file a Close is asked.
 #[tactic(auto, using(crate::proofs::FileWords::close_asks, crate::proofs::FileWords::close_goes))]
 fn close_descriptor(
     alloc: Global,
@@ -399,22 +384,23 @@ fn close_descriptor(
     desk: &mut Desk,
 ) -> Result<FileCommand, NoMemory>
     ensures ok { IfOk result (λ command. GoesOn (close_talk word.now fd) (state_of desk.old) command (state_of desk.new)) }
-    ensures desk { state_of desk.new ≡ state_behind (close_talk word.now fd) (state_of desk.old) }
+    ensures desk { OnOk result (state_of desk.new ≡ state_behind (close_talk word.now fd) (state_of desk.old)) }
     ensures err { OnErr result (state_of desk.new ≡ state_of desk.old) }
 {
-    if let Some(hold) = last_hold(&desk.fds, fd) {
-        let word = copy_word(alloc, word)?;
-        return Ok(FileCommand::Close { word, fd, hold });
-    }
+    let word = copy_word(alloc, word)?;
     match desk.fds.close(fd) {
-        Ok(_) => Ok(shown(Bytes::new(alloc))),
-        Err(fault) => failed(alloc, b"close", word, fault.errno()),
+        Ok(Some(file)) => Ok(FileCommand::Close {
+            word,
+            hold: file.hold,
+        }),
+        Ok(None) => Ok(shown(Bytes::new(alloc))),
+        Err(fault) => failed(alloc, b"close", &word, fault.errno()),
     }
 }
 
 fn close(alloc: Global, words: &[Bytes], desk: &mut Desk) -> Result<FileCommand, NoMemory>
     ensures ok { IfOk result (λ command. GoesOn (close_words_talk words.now) (state_of desk.old) command (state_of desk.new)) }
-    ensures desk { state_of desk.new ≡ state_behind (close_words_talk words.now) (state_of desk.old) }
+    ensures desk { OnOk result (state_of desk.new ≡ state_behind (close_words_talk words.now) (state_of desk.old)) }
     ensures err { OnErr result (state_of desk.new ≡ state_of desk.old) }
 {
     let [word] = words else {
@@ -436,7 +422,7 @@ pub fn file_command(
     desk: &mut Desk,
 ) -> Result<Option<FileCommand>, NoMemory>
     ensures ok { IfOk result (λ found. BeginsFile (file_command_talk name.now words.now) (state_of desk.old) found (state_of desk.new)) }
-    ensures desk { state_of desk.new ≡ begun_state (file_command_talk name.now words.now) (state_of desk.old) }
+    ensures desk { OnOk result (state_of desk.new ≡ begun_state (file_command_talk name.now words.now) (state_of desk.old)) }
     ensures err { OnErr result (state_of desk.new ≡ state_of desk.old) }
 {
     let command = if is_word(name, b"open") {

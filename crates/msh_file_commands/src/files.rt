@@ -1,25 +1,23 @@
 //! The commands of open files.
 
-ghost use Rattle.std.specs.Prelude.{◌≡◌, ◌≤◌, [], ◌∷◌, IfOk, OnOk, OnErr, List, ◌&&◌, slice_get};
+ghost use Rattle.std.specs.Prelude.{◌≡◌, [], ◌∷◌, IfOk, OnOk, OnErr, List, ◌&&◌, slice_get};
 ghost use Rattle.vfs_base.specs.declared.reply.Reply.{Reply as AnyReply};
 ghost use Rattle.vfs_model.specs.CommandText.{fails, number_line};
 ghost use Rattle.vfs_model.specs.CopyCommands.{is_cut as is_cut_kind};
 ghost use Rattle.vfs_model.specs.FileCommands.{read_replied as read_talk, seek_place as seek_talk, seek_sized as seek_sized_talk, with_place, write_replied as write_talk, write_step as step_of_write};
 ghost use Rattle.vfs_model.specs.FolderCommands.{done_or_fails as done_talk};
-ghost use Rattle.vfs_model.specs.OpenCommands.{add_opened as add_talk, close_replied as close_talk, cut_done as cut_done_talk, cut_opened as cut_talk, descriptor_line, open_replied as open_talk, opened_file as file_opened};
-ghost use Rattle.vfs_model.specs.OpenFiles.{close_file, place_max};
+ghost use Rattle.vfs_model.specs.OpenCommands.{add_opened as add_talk, cut_replied as cut_talk, descriptor_line, open_replied as open_talk, opened_file as file_opened};
 ghost use Rattle.vfs_model.specs.OpenStep.{truncates};
 ghost use Rattle.vfs_model.specs.Talk.{shows};
 ghost use Rattle.vfs_model.specs.declared.shell_state.ShellState.{ShellState};
-ghost use Rattle.msh_file_commands.specs.FileTalks.{EndsPlaced, GoesOn, closed_or_same, file_talk, state_behind};
+ghost use Rattle.msh_file_commands.specs.FileTalks.{GoesOn, OwnsNone, file_talk, open_ended as open_ended_talk, own_of, state_behind};
 ghost use Rattle.msh_desk.specs.FitsReply.{TakesReply};
 ghost use Rattle.msh_desk.specs.State.{state_of};
 
-use crate::placed_file::PlacedFile;
 use bitflags::Flags;
 use fd_table::moved_place;
 use msh_desk::{Desk, ask, copy_word, done_or_fails, finished};
-use msh_forms::{bytes_text, descriptor_text, number_text, subject_error_text};
+use msh_forms::{bytes_text, descriptor_text, number_text, push_subject_error, subject_error_text};
 use std::alloc::Global;
 use std::mem;
 use vfs_base::{Bytes, Errno, FileId, HoldId, Kind, NoMemory, OpenFlags, Reply, Step, copy_bytes};
@@ -48,21 +46,26 @@ pub enum FileCommand {
     /// `open` asks the Trunc of the file that it opened.
     OpenCut {
         word: Bytes,
-        fd: u64,
-        file: FileId,
+        file: OpenFile,
+    },
+    /// `open` asks the Close of the file that it opened, whose Trunc was refused.
+    OpenEnd {
+        word: Bytes,
+        hold: HoldId,
+        errno: Errno,
     },
     /// `read` asks Read.
     Read {
         word: Bytes,
         fd: u64,
         n: u64,
-        opened: PlacedFile,
+        opened: OpenFile,
     },
     /// `write` asks Write, or Append.
     Write {
         word: Bytes,
         fd: u64,
-        opened: PlacedFile,
+        opened: OpenFile,
         bytes: Bytes,
     },
     /// `lseek` from the end asks Size.
@@ -86,7 +89,6 @@ pub enum FileCommand {
     /// `close` of an open file's last descriptor asks Close.
     Close {
         word: Bytes,
-        fd: u64,
         hold: HoldId,
     },
 }
@@ -114,11 +116,14 @@ impl FileCommand {
                 }))
             }
             FileCommand::OpenCut { file, .. } => Ok(ask(Step::Trunc {
-                file: *file,
+                file: file.file,
                 len: 0,
             })),
+            FileCommand::OpenEnd { hold, .. } | FileCommand::Close { hold, .. } => {
+                Ok(ask(Step::Close { hold: *hold }))
+            }
             FileCommand::Read { n, opened, .. } => {
-                let OpenFile { file, place, .. } = opened.file;
+                let OpenFile { file, place, .. } = *opened;
                 Ok(ask(Step::Read {
                     file,
                     off: place,
@@ -126,7 +131,7 @@ impl FileCommand {
                 }))
             }
             FileCommand::Write { opened, bytes, .. } => {
-                let step = write_step(alloc, &opened.file, bytes)?;
+                let step = write_step(alloc, opened, bytes)?;
                 Ok(ask(step))
             }
             FileCommand::SeekEnd { file, .. } => Ok(ask(Step::Size { file: *file })),
@@ -135,34 +140,42 @@ impl FileCommand {
                 len: *len,
             })),
             FileCommand::Sync { file, .. } => Ok(ask(Step::Sync { file: *file })),
-            FileCommand::Close { hold, .. } => Ok(ask(Step::Close { hold: *hold })),
         }
     }
 
-    /// What gives back a reference that the command has and no descriptor has: none, since an open file
-    /// has its descriptor with the reply.
-    pub fn own(&self, place: usize) -> Option<Step>
-        ensures { (state : ShellState) → result ≡ slice_get (file_talk self.now state []).own place }
+    // The reference that the command has and no descriptor has: that of a file that is opened or closed.
+    fn hold(&self) -> Option<HoldId>
+        ensures { (state : ShellState) → own_of result ≡ (file_talk self.now state []).own }
     {
         match self {
+            FileCommand::OpenCut { file, .. } => Some(file.hold),
+            FileCommand::OpenEnd { hold, .. } | FileCommand::Close { hold, .. } => Some(*hold),
             FileCommand::Shown { .. }
             | FileCommand::ShownNumber { .. }
             | FileCommand::ShownDescriptor { .. }
             | FileCommand::Open { .. }
-            | FileCommand::OpenCut { .. }
             | FileCommand::Read { .. }
             | FileCommand::Write { .. }
             | FileCommand::SeekEnd { .. }
             | FileCommand::Cut { .. }
-            | FileCommand::Sync { .. }
-            | FileCommand::Close { .. } => None,
+            | FileCommand::Sync { .. } => None,
+        }
+    }
+
+    /// What gives back the reference at this place among those that the command has and no descriptor
+    /// has, which are one at most.
+    pub fn own(&self, place: usize) -> Option<Step>
+        ensures { (state : ShellState) → result ≡ slice_get (file_talk self.now state []).own place }
+    {
+        match self.hold() {
+            Some(hold) if place == 0 => Some(Step::Close { hold }),
+            _ => None,
         }
     }
 
     /// Takes in the reply to the step that is asked. A reply of a form that the step doesn't have ends the
     /// command. Want of memory loses text alone: the desk has taken in the reply, and the command may only
     /// be given up.
-    #[tactic(auto, using(crate::proofs::FileKeeps::reply_owns))]
     pub fn feed(&mut self, alloc: Global, reply: &Reply, desk: &mut Desk) -> Result<(), NoMemory>
         requires { TakesReply (file_talk self.old (state_of desk.old) []).next reply.now }
         ensures ok { OnOk result ((later : List AnyReply) → file_talk self.new (state_of desk.new) later ≡ file_talk self.old (state_of desk.old) (reply.now ∷ later)) }
@@ -176,36 +189,38 @@ impl FileCommand {
     }
 
     // Where the command stands behind the reply to the step that it asks.
-    #[tactic(auto, using(crate::proofs::FileKeeps::write_ends))]
+    #[tactic(auto, using(crate::proofs::FileKeeps::reply_owns))]
     fn fed(self, alloc: Global, reply: &Reply, desk: &mut Desk) -> Result<FileCommand, NoMemory>
         requires { TakesReply (file_talk self (state_of desk.old) []).next reply.now }
         ensures ok { IfOk result (λ command. (later : List AnyReply) → file_talk command (state_of desk.new) later ≡ file_talk self (state_of desk.old) (reply.now ∷ later)) }
         ensures desk { state_of desk.new ≡ (file_talk self (state_of desk.old) (reply.now ∷ [])).state }
+        ensures own { OnErr result ((file_talk self (state_of desk.old) (reply.now ∷ [])).own ≡ []) }
     {
         match self {
             FileCommand::Shown { text } => Ok(shown(text)),
             FileCommand::ShownNumber { number } => Ok(told_number(number)),
             FileCommand::ShownDescriptor { fd } => Ok(told_descriptor(fd)),
             FileCommand::Open { word, flags } => open_replied(alloc, word, flags, reply, desk),
-            FileCommand::OpenCut { word, fd, .. } => cut_done(alloc, &word, fd, reply),
+            FileCommand::OpenCut { word, file } => cut_replied(alloc, word, file, reply, desk),
+            FileCommand::OpenEnd { word, errno, .. } => open_ended(alloc, &word, errno, reply),
             FileCommand::Read {
                 word,
                 fd,
                 opened,
                 ..
-            } => { read_replied(alloc, &word, fd, &opened.file, reply, desk) }
+            } => { read_replied(alloc, &word, fd, &opened, reply, desk) }
             FileCommand::Write {
                 word,
                 fd,
                 opened,
                 ..
-            } => { write_replied(alloc, &word, fd, &opened.file, reply, desk) }
+            } => { write_replied(alloc, &word, fd, &opened, reply, desk) }
             FileCommand::SeekEnd { word, fd, off, .. } => {
                 seek_sized(alloc, &word, fd, off, reply, desk)
             }
             FileCommand::Cut { word, .. } => done(alloc, b"ftruncate", &word, reply),
             FileCommand::Sync { word, .. } => done(alloc, b"fsync", &word, reply),
-            FileCommand::Close { word, fd, .. } => close_replied(alloc, &word, fd, reply, desk),
+            FileCommand::Close { word, .. } => done(alloc, b"close", &word, reply),
         }
     }
 }
@@ -280,8 +295,7 @@ fn told_number(number: u64) -> FileCommand
 
 // The open file of an Opened, from its first byte on.
 fn opened_file(hold: HoldId, file: FileId, kind: Kind, flags: OpenFlags) -> OpenFile
-    ensures value { result ≡ file_opened hold file kind flags }
-    ensures placed { result.place ≤ place_max }
+    ensures { result ≡ file_opened hold file kind flags }
 {
     OpenFile {
         hold,
@@ -294,16 +308,6 @@ fn opened_file(hold: HoldId, file: FileId, kind: Kind, flags: OpenFlags) -> Open
     }
 }
 
-fn cut_done(alloc: Global, word: &Bytes, fd: u64, reply: &Reply) -> Result<FileCommand, NoMemory>
-    ensures { IfOk result (λ next. file_talk next ≡ cut_done_talk word.now fd reply.now) }
-{
-    match reply {
-        Reply::Done => Ok(told_descriptor(fd)),
-        Reply::Refused { errno } => failed(alloc, b"open", word, *errno),
-        _ => Ok(shown(Bytes::new(alloc))),
-    }
-}
-
 // Whether a Trunc is asked for.
 fn is_cut(flags: OpenFlags, kind: Kind) -> bool
     ensures { result ≡ (truncates flags && is_cut_kind kind) }
@@ -311,32 +315,61 @@ fn is_cut(flags: OpenFlags, kind: Kind) -> bool
     flags.contains(OpenFlags::TRUNC) && matches!(kind, Kind::Tmp | Kind::Cell)
 }
 
-fn cut_opened(word: Bytes, flags: OpenFlags, file: FileId, kind: Kind, fd: u64) -> FileCommand
-    ensures { file_talk result ≡ cut_talk word flags file kind fd }
-{
-    if is_cut(flags, kind) {
-        return FileCommand::OpenCut { word, fd, file };
-    }
-    told_descriptor(fd)
-}
-
-// The descriptor is there from now on, whatever a Trunc replies.
+// The open file gets its descriptor.
+#[tactic(auto, using(crate::proofs::FileKeeps::add_owns))]
 fn add_opened(
     alloc: Global,
-    word: Bytes,
-    flags: OpenFlags,
+    word: &Bytes,
     file: OpenFile,
     desk: &mut Desk,
 ) -> Result<FileCommand, NoMemory>
-    requires { file.place ≤ place_max }
-    ensures ok { IfOk result (λ next. GoesOn (add_talk word flags file) (state_of desk.old) next (state_of desk.new)) }
-    ensures desk { state_of desk.new ≡ state_behind (add_talk word flags file) (state_of desk.old) }
+    ensures ok { IfOk result (λ next. GoesOn (add_talk word.now file) (state_of desk.old) next (state_of desk.new)) }
+    ensures desk { state_of desk.new ≡ state_behind (add_talk word.now file) (state_of desk.old) }
+    ensures own { OnErr result (OwnsNone (add_talk word.now file) (state_of desk.old)) }
 {
-    let OpenFile { file: id, kind, .. } = file;
     match desk.fds.add(file) {
-        Ok(fd) => Ok(cut_opened(word, flags, id, kind, fd)),
-        Err(fault) => failed(alloc, b"open", &word, fault.errno()),
+        Ok(fd) => Ok(told_descriptor(fd)),
+        Err(fault) => failed(alloc, b"open", word, fault.errno()),
     }
+}
+
+// The file is cut, or it is closed again and gets no descriptor.
+fn cut_replied(
+    alloc: Global,
+    word: Bytes,
+    file: OpenFile,
+    reply: &Reply,
+    desk: &mut Desk,
+) -> Result<FileCommand, NoMemory>
+    ensures ok { IfOk result (λ next. GoesOn (cut_talk word file reply.now) (state_of desk.old) next (state_of desk.new)) }
+    ensures desk { state_of desk.new ≡ state_behind (cut_talk word file reply.now) (state_of desk.old) }
+    ensures own { OnErr result (OwnsNone (cut_talk word file reply.now) (state_of desk.old)) }
+{
+    match reply {
+        Reply::Done => add_opened(alloc, &word, file, desk),
+        Reply::Refused { errno } => Ok(FileCommand::OpenEnd {
+            word,
+            hold: file.hold,
+            errno: *errno,
+        }),
+        _ => Ok(shown(Bytes::new(alloc))),
+    }
+}
+
+// The error of the Trunc, and that of the Close behind it where that is refused too.
+fn open_ended(
+    alloc: Global,
+    word: &Bytes,
+    errno: Errno,
+    reply: &Reply,
+) -> Result<FileCommand, NoMemory>
+    ensures { IfOk result (λ next. file_talk next ≡ open_ended_talk word.now errno reply.now) }
+{
+    let mut text = subject_error_text(alloc, b"open", word.as_slice(), errno)?;
+    if let Reply::Refused { errno } = reply {
+        push_subject_error(&mut text, b"open", word.as_slice(), *errno)?;
+    }
+    Ok(shown(text))
 }
 
 fn open_replied(
@@ -348,11 +381,15 @@ fn open_replied(
 ) -> Result<FileCommand, NoMemory>
     ensures ok { IfOk result (λ next. GoesOn (open_talk word flags reply.now) (state_of desk.old) next (state_of desk.new)) }
     ensures desk { state_of desk.new ≡ state_behind (open_talk word flags reply.now) (state_of desk.old) }
+    ensures own { OnErr result (OwnsNone (open_talk word flags reply.now) (state_of desk.old)) }
 {
     match reply {
         Reply::Opened { hold, file, kind } => {
             let file = opened_file(*hold, *file, *kind, flags);
-            add_opened(alloc, word, flags, file, desk)
+            if is_cut(flags, file.kind) {
+                return Ok(FileCommand::OpenCut { word, file });
+            }
+            add_opened(alloc, &word, file, desk)
         }
         Reply::Refused { errno } => failed(alloc, b"open", &word, *errno),
         _ => Ok(shown(Bytes::new(alloc))),
@@ -361,7 +398,6 @@ fn open_replied(
 
 // The open file of the descriptor is here now; a character device stays at 0. It takes no memory.
 fn put_place(desk: &mut Desk, fd: u64, kind: Kind, place: u64)
-    requires { place ≤ place_max }
     ensures { state_of desk.new ≡ with_place fd kind place (state_of desk.old) }
 {
     let place = if matches!(kind, Kind::Chr) { 0 } else { place };
@@ -401,7 +437,6 @@ fn write_replied(
     reply: &Reply,
     desk: &mut Desk,
 ) -> Result<FileCommand, NoMemory>
-    requires { EndsPlaced reply.now }
     ensures ok { IfOk result (λ next. GoesOn (write_talk word.now fd file.now reply.now) (state_of desk.old) next (state_of desk.new)) }
     ensures desk { state_of desk.new ≡ state_behind (write_talk word.now fd file.now reply.now) (state_of desk.old) }
 {
@@ -450,27 +485,6 @@ fn seek_sized(
             seek_place(alloc, word, fd, off, Whence::End { size: *size }, desk)
         }
         Reply::Refused { errno } => failed(alloc, b"lseek", word, *errno),
-        _ => Ok(shown(Bytes::new(alloc))),
-    }
-}
-
-// The descriptor goes with the reply; where the Close is refused it stays.
-fn close_replied(
-    alloc: Global,
-    word: &Bytes,
-    fd: u64,
-    reply: &Reply,
-    desk: &mut Desk,
-) -> Result<FileCommand, NoMemory>
-    ensures ok { IfOk result (λ next. GoesOn (close_talk word.now (closed_or_same desk.old.fds (close_file desk.old.fds fd)) reply.now) (state_of desk.old) next (state_of desk.new)) }
-    ensures desk { state_of desk.new ≡ state_behind (close_talk word.now (closed_or_same desk.old.fds (close_file desk.old.fds fd)) reply.now) (state_of desk.old) }
-{
-    match reply {
-        Reply::Done => {
-            let _closed = desk.fds.close(fd);
-            Ok(shown(Bytes::new(alloc)))
-        }
-        Reply::Refused { errno } => failed(alloc, b"close", word, *errno),
         _ => Ok(shown(Bytes::new(alloc))),
     }
 }

@@ -10,11 +10,9 @@ mod files;
 mod map_part;
 mod mapping_words;
 mod mappings;
-mod placed_file;
 
 pub use file_words::file_command;
 pub use files::FileCommand;
 pub use map_part::MapPart;
 pub use mapping_words::mapping_command;
 pub use mappings::MappingCommand;
-pub use placed_file::PlacedFile;

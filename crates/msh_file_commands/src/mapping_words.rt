@@ -1,8 +1,9 @@
 //! How a command of mappings begins: by its name and the words behind it. The desk stays as it is.
 
-ghost use Rattle.std.specs.Prelude.{◌≡◌, IfOk, IfErr, Ok, Err};
+ghost use Rattle.std.specs.Prelude.{◌≡◌, IfOk, IfErr, OnOk, OnErr, Ok, Err};
 ghost use Rattle.vfs_model.specs.CommandText.{usage as usage_talk};
 ghost use Rattle.vfs_model.specs.MappingCommands.{load_checks as load_checks_of, load_mapped as load_talk, map_checks as map_checks_of, map_file as map_talk, mapping_command as mapping_command_talk, mload as mload_talk, mmap as mmap_talk, mstore as mstore_talk, msync as msync_talk, munmap as munmap_talk, store_mapped as store_talk, sync_mapped as sync_talk, unmap as unmap_talk};
+ghost use Rattle.msh_file_commands.specs.FileTalks.{begun_state, state_behind};
 ghost use Rattle.msh_file_commands.specs.MappingTalks.{BeginsMapping, GoesOn, mapping_talk};
 ghost use Rattle.msh_desk.specs.State.{state_of};
 
@@ -29,8 +30,7 @@ fn map_checks(desk: &Desk, fd: u64, off: u64, len: u64, writes: bool) -> Result<
     ensures ok { IfOk result (λ part. (map_checks_of (state_of desk.now) fd off len writes ≡ Ok part.file) × ((part.off ≡ off) × ((part.len ≡ len) × (part.writes ≡ writes)))) }
     ensures err { IfErr result (λ errno. map_checks_of (state_of desk.now) fd off len writes ≡ Err errno) }
 {
-    let opened = open_file(&desk.fds, fd)?;
-    let file = opened.file;
+    let file = open_file(&desk.fds, fd)?;
     if let Err(fault) = may_map(file.kind, file.reads, file.writes, off, len, writes) {
         return Err(fault.errno());
     }
@@ -206,25 +206,32 @@ fn msync(alloc: Global, words: &[Bytes], desk: &Desk) -> Result<MappingCommand, 
     }
 }
 
-#[tactic(auto, unfolding(vfs_model::specs::Mappings::remove_mapping))]
-fn unmap(alloc: Global, word: &Bytes, number: u64, desk: &Desk) -> Result<MappingCommand, NoMemory>
-    ensures { IfOk result (λ command. GoesOn (unmap_talk word.now number) (state_of desk.now) command (state_of desk.now)) }
+// The mapping is given up at once.
+#[tactic(auto, using(crate::proofs::MappingWords::unmap_asks))]
+fn unmap(
+    alloc: Global,
+    word: &Bytes,
+    number: u64,
+    desk: &mut Desk,
+) -> Result<MappingCommand, NoMemory>
+    ensures ok { IfOk result (λ command. GoesOn (unmap_talk word.now number) (state_of desk.old) command (state_of desk.new)) }
+    ensures desk { OnOk result (state_of desk.new ≡ state_behind (unmap_talk word.now number) (state_of desk.old)) }
+    ensures err { OnErr result (state_of desk.new ≡ state_of desk.old) }
 {
-    match desk.windows.get(number) {
-        Some(window) => {
-            let word = copy_word(alloc, word)?;
-            Ok(MappingCommand::Unmap {
-                word,
-                number,
-                hold: window.hold,
-            })
-        }
-        None => failed(alloc, b"munmap", word, Errno::EINVAL),
+    let word = copy_word(alloc, word)?;
+    match desk.windows.remove(number) {
+        Ok(window) => Ok(MappingCommand::Unmap {
+            word,
+            hold: window.hold,
+        }),
+        Err(fault) => failed(alloc, b"munmap", &word, fault.errno()),
     }
 }
 
-fn munmap(alloc: Global, words: &[Bytes], desk: &Desk) -> Result<MappingCommand, NoMemory>
-    ensures { IfOk result (λ command. GoesOn (munmap_talk words.now) (state_of desk.now) command (state_of desk.now)) }
+fn munmap(alloc: Global, words: &[Bytes], desk: &mut Desk) -> Result<MappingCommand, NoMemory>
+    ensures ok { IfOk result (λ command. GoesOn (munmap_talk words.now) (state_of desk.old) command (state_of desk.new)) }
+    ensures desk { OnOk result (state_of desk.new ≡ state_behind (munmap_talk words.now) (state_of desk.old)) }
+    ensures err { OnErr result (state_of desk.new ≡ state_of desk.old) }
 {
     let [word] = words else {
         return usage(alloc, b"munmap W");
@@ -235,14 +242,18 @@ fn munmap(alloc: Global, words: &[Bytes], desk: &Desk) -> Result<MappingCommand,
     }
 }
 
-/// The command of this name with these words behind it; `None` where it is of no mapping.
+/// The command of this name with these words behind it; `None` where it is of no mapping. At want of
+/// memory the desk is as before.
+#[tactic(auto, using(crate::proofs::MappingWords::map_keeps, crate::proofs::MappingWords::load_keeps, crate::proofs::MappingWords::store_keeps, crate::proofs::MappingWords::sync_keeps))]
 pub fn mapping_command(
     alloc: Global,
     name: &[u8],
     words: &[Bytes],
-    desk: &Desk,
+    desk: &mut Desk,
 ) -> Result<Option<MappingCommand>, NoMemory>
-    ensures { IfOk result (λ found. BeginsMapping (mapping_command_talk name.now words.now) (state_of desk.now) found) }
+    ensures ok { IfOk result (λ found. BeginsMapping (mapping_command_talk name.now words.now) (state_of desk.old) found (state_of desk.new)) }
+    ensures desk { OnOk result (state_of desk.new ≡ begun_state (mapping_command_talk name.now words.now) (state_of desk.old)) }
+    ensures err { OnErr result (state_of desk.new ≡ state_of desk.old) }
 {
     let command = if is_word(name, b"mmap") {
         mmap(alloc, words, desk)?

@@ -5,13 +5,12 @@ ghost use Rattle.vfs_base.specs.declared.limits.TheConstants.{OFF_MAX};
 ghost use Rattle.vfs_base.specs.declared.reply.Reply.{Reply as AnyReply};
 ghost use Rattle.vfs_model.specs.CommandText.{fails};
 ghost use Rattle.vfs_model.specs.FolderCommands.{done_or_fails as done_talk};
-ghost use Rattle.vfs_model.specs.MappingCommands.{add_mapped as add_talk, load_replied as load_talk, map_replied as map_talk, store_replied as store_talk, unmap_replied as unmap_talk};
-ghost use Rattle.vfs_model.specs.Mappings.{remove_mapping};
+ghost use Rattle.vfs_model.specs.MappingCommands.{add_mapped as add_talk, load_replied as load_talk, map_replied as map_talk, store_replied as store_talk};
 ghost use Rattle.vfs_model.specs.Talk.{shows};
 ghost use Rattle.vfs_model.specs.declared.shell_state.ShellState.{ShellState};
 ghost use Rattle.msh_file_commands.specs.FileTalks.{state_behind};
 ghost use Rattle.msh_desk.specs.FitsReply.{TakesReply};
-ghost use Rattle.msh_file_commands.specs.MappingTalks.{GoesOn, mapping_talk, taken_or_same};
+ghost use Rattle.msh_file_commands.specs.MappingTalks.{GoesOn, mapping_talk};
 ghost use Rattle.msh_desk.specs.State.{state_of};
 
 use crate::map_part::MapPart;
@@ -56,7 +55,6 @@ pub enum MappingCommand {
     /// `munmap` asks Unmap.
     Unmap {
         word: Bytes,
-        number: u64,
         hold: HoldId,
     },
 }
@@ -102,18 +100,14 @@ impl MappingCommand {
         }
     }
 
-    /// What gives back a reference that the command has and no mapping has: none, since a mapping has it
-    /// with the reply.
+    /// What gives back the reference at this place among those that the command has and no mapping has:
+    /// that of a mapping that is given up.
     pub fn own(&self, place: usize) -> Option<Step>
         ensures { (state : ShellState) → result ≡ slice_get (mapping_talk self.now state []).own place }
     {
         match self {
-            MappingCommand::Shown { .. }
-            | MappingCommand::Map { .. }
-            | MappingCommand::Load { .. }
-            | MappingCommand::Store { .. }
-            | MappingCommand::Sync { .. }
-            | MappingCommand::Unmap { .. } => None,
+            MappingCommand::Unmap { hold, .. } if place == 0 => Some(Step::Unmap { hold: *hold }),
+            _ => None,
         }
     }
 
@@ -145,9 +139,7 @@ impl MappingCommand {
             MappingCommand::Load { word, .. } => load_replied(alloc, &word, reply),
             MappingCommand::Store { word, .. } => store_replied(alloc, &word, reply),
             MappingCommand::Sync { word, .. } => done(alloc, b"msync", &word, reply),
-            MappingCommand::Unmap { word, number, .. } => {
-                unmap_replied(alloc, &word, number, reply, desk)
-            }
+            MappingCommand::Unmap { word, .. } => done(alloc, b"munmap", &word, reply),
         }
     }
 }
@@ -253,27 +245,6 @@ fn store_replied(alloc: Global, word: &Bytes, reply: &Reply) -> Result<MappingCo
             Ok(shown(text))
         }
         Reply::Refused { errno } => failed(alloc, b"mstore", word, *errno),
-        _ => Ok(shown(Bytes::new(alloc))),
-    }
-}
-
-// The mapping goes with the reply; where the Unmap is refused it stays.
-fn unmap_replied(
-    alloc: Global,
-    word: &Bytes,
-    number: u64,
-    reply: &Reply,
-    desk: &mut Desk,
-) -> Result<MappingCommand, NoMemory>
-    ensures ok { IfOk result (λ next. GoesOn (unmap_talk word.now (taken_or_same desk.old.windows (remove_mapping desk.old.windows number)) reply.now) (state_of desk.old) next (state_of desk.new)) }
-    ensures desk { state_of desk.new ≡ state_behind (unmap_talk word.now (taken_or_same desk.old.windows (remove_mapping desk.old.windows number)) reply.now) (state_of desk.old) }
-{
-    match reply {
-        Reply::Done => {
-            let _taken = desk.windows.remove(number);
-            Ok(shown(Bytes::new(alloc)))
-        }
-        Reply::Refused { errno } => failed(alloc, b"munmap", word, *errno),
         _ => Ok(shown(Bytes::new(alloc))),
     }
 }
