@@ -9,27 +9,27 @@ use Rattle.vfs_model.specs.MountCommands.{mount_command}
 use Rattle.vfs_model.specs.Talk.{Talk}
 use Rattle.vfs_model.specs.declared.shell_state.ShellState.{ShellState}
 use Rattle.msh_commands.specs.CommandTalks.{command_talk, family_talk}
-use Rattle.msh_commands.specs.FileTalks.{BeginsFile, file_talk}
-use Rattle.msh_commands.specs.MappingTalks.{BeginsMapping, mapping_talk}
-use Rattle.msh_commands.specs.CopyTalks.{copy_talk}
-use Rattle.msh_commands.specs.FolderTalks.{folder_talk}
-use Rattle.msh_commands.specs.MountTalks.{mount_talk}
-use Rattle.msh_commands.specs.TextTalks.{text_talk}
+use Rattle.msh_file_commands.specs.FileTalks.{BeginsFile, file_talk}
+use Rattle.msh_file_commands.specs.MappingTalks.{BeginsMapping, mapping_talk}
+use Rattle.msh_text_commands.specs.CopyTalks.{copy_talk}
+use Rattle.msh_tree_commands.specs.FolderTalks.{folder_talk}
+use Rattle.msh_tree_commands.specs.MountTalks.{mount_talk}
+use Rattle.msh_text_commands.specs.TextTalks.{text_talk}
 use Rattle.msh_commands.specs.declared.command.Command.{Command}
 use Rattle.msh_commands.specs.declared.command.Family.{Family}
 use Rattle.msh_commands.specs.declared.command.Family.TheVariants as family
-use Rattle.msh_commands.specs.declared.copies.CopyCommand.{CopyCommand}
-use Rattle.msh_commands.specs.declared.copies.CopyCommand.TheVariants as copies
-use Rattle.msh_commands.specs.declared.files.FileCommand.{FileCommand}
-use Rattle.msh_commands.specs.declared.files.FileCommand.TheVariants as files
-use Rattle.msh_commands.specs.declared.folders.FolderCommand.{FolderCommand}
-use Rattle.msh_commands.specs.declared.folders.FolderCommand.TheVariants as folders
-use Rattle.msh_commands.specs.declared.mappings.MappingCommand.{MappingCommand}
-use Rattle.msh_commands.specs.declared.mappings.MappingCommand.TheVariants as mappings
-use Rattle.msh_commands.specs.declared.mounts.MountCommand.{MountCommand}
-use Rattle.msh_commands.specs.declared.mounts.MountCommand.TheVariants as mounts
-use Rattle.msh_commands.specs.declared.texts.TextCommand.{TextCommand}
-use Rattle.msh_commands.specs.declared.texts.TextCommand.TheVariants as texts
+use Rattle.msh_text_commands.specs.declared.copies.CopyCommand.{CopyCommand}
+use Rattle.msh_text_commands.specs.declared.copies.CopyCommand.TheVariants as copies
+use Rattle.msh_file_commands.specs.declared.files.FileCommand.{FileCommand}
+use Rattle.msh_file_commands.specs.declared.files.FileCommand.TheVariants as files
+use Rattle.msh_tree_commands.specs.declared.folders.FolderCommand.{FolderCommand}
+use Rattle.msh_tree_commands.specs.declared.folders.FolderCommand.TheVariants as folders
+use Rattle.msh_file_commands.specs.declared.mappings.MappingCommand.{MappingCommand}
+use Rattle.msh_file_commands.specs.declared.mappings.MappingCommand.TheVariants as mappings
+use Rattle.msh_tree_commands.specs.declared.mounts.MountCommand.{MountCommand}
+use Rattle.msh_tree_commands.specs.declared.mounts.MountCommand.TheVariants as mounts
+use Rattle.msh_text_commands.specs.declared.texts.TextCommand.{TextCommand}
+use Rattle.msh_text_commands.specs.declared.texts.TextCommand.TheVariants as texts
 
 pub files_begin : (found : Option Talk) (other : Talk) (before after : ShellState) (command : FileCommand) →
     BeginsFile found before (Some command) after → (later : List Reply) → file_talk command after later ≡ talk_or found other before later

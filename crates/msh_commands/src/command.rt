@@ -1,4 +1,4 @@
-ghost use Rattle.std.specs.Prelude.{◌≡◌, ◌⊎◌, [], ◌∷◌, IfOk, OnOk, OnErr, List, slice_get};
+ghost use Rattle.std.specs.Prelude.{◌≡◌, [], ◌∷◌, IfOk, OnOk, OnErr, List, slice_get};
 ghost use Rattle.std.specs.Option.{option_map};
 ghost use Rattle.vfs_base.specs.declared.reply.Reply.{Reply as AnyReply};
 ghost use Rattle.vfs_model.specs.Command.{command as command_of, talk_or};
@@ -7,26 +7,16 @@ ghost use Rattle.vfs_model.specs.FolderCommands.{folder_command as folder_comman
 ghost use Rattle.vfs_model.specs.MountCommands.{mount_command as mount_command_talk};
 ghost use Rattle.vfs_model.specs.Talk.{Talk};
 ghost use Rattle.vfs_model.specs.declared.shell_state.ShellState.{ShellState};
-ghost use Rattle.msh_commands.specs.CommandTalks.{begun_by, command_talk, family_talk};
-ghost use Rattle.msh_commands.specs.FitsReply.{TakesReply};
-ghost use Rattle.msh_commands.specs.State.{state_of};
+ghost use Rattle.msh_commands.specs.CommandTalks.{command_talk, family_talk};
+ghost use Rattle.msh_desk.specs.FitsReply.{TakesReply};
+ghost use Rattle.msh_desk.specs.State.{state_of};
 
-use crate::copies::CopyCommand;
-use crate::copy_words::cp;
-use crate::desk::Desk;
-use crate::file_words::file_command;
-use crate::files::FileCommand;
-use crate::folder_words::folder_command;
-use crate::folders::FolderCommand;
-use crate::mapping_words::mapping_command;
-use crate::mappings::MappingCommand;
-use crate::mount_words::mount_command;
-use crate::mounts::MountCommand;
 use crate::plain_words::plain_text;
-use crate::replies::finished;
-use crate::text_words::{cat, echo};
-use crate::texts::TextCommand;
+use msh_desk::{Desk, finished};
+use msh_file_commands::{FileCommand, MappingCommand, file_command, mapping_command};
 use msh_forms::is_word;
+use msh_text_commands::{CopyCommand, TextCommand, cat, cp, echo};
+use msh_tree_commands::{FolderCommand, MountCommand, folder_command, mount_command};
 use msh_words::Words;
 use std::alloc::Global;
 use vfs_base::{Bytes, NoMemory, Reply, Step};
@@ -54,13 +44,12 @@ impl Command {
     /// The command of a line's words, before its first step. Where the words close a further descriptor,
     /// duplicate one or move its place, the desk is changed at once.
     ///
-    /// At want of memory the desk is as before, or as those words change it.
+    /// At want of memory the desk is as before.
     pub fn start(alloc: Global, words: Words, desk: &mut Desk) -> Result<Command, NoMemory>
         ensures ok { IfOk result (λ command. (later : List AnyReply) →
             command_talk command (state_of desk.new) later ≡ command_of words (state_of desk.old) later) }
         ensures desk { OnOk result (state_of desk.new ≡ (command_of words (state_of desk.old) []).state) }
-        ensures err { OnErr result ((state_of desk.new ≡ state_of desk.old)
-            ⊎ (state_of desk.new ≡ begun_by words (state_of desk.old))) }
+        ensures err { OnErr result (state_of desk.new ≡ state_of desk.old) }
     {
         let family = match words.as_slice() {
             [] => Family::Shown {
@@ -107,7 +96,7 @@ impl Command {
     ///
     /// At want of memory the desk and `own` have taken in the reply all the same. Text or bytes that were
     /// read are lost, so that the command may only be given up.
-    #[tactic(auto, using(crate::proofs::MountKeeps::takes_asking, crate::proofs::TextKeeps::text_takes_asking, crate::proofs::CopyKeeps::copy_takes_asking))]
+    #[tactic(auto, using(msh_tree_commands::proofs::MountKeeps::takes_asking, msh_text_commands::proofs::TextKeeps::text_takes_asking, msh_text_commands::proofs::CopyKeeps::copy_takes_asking))]
     pub fn feed(&mut self, alloc: Global, reply: &Reply, desk: &mut Desk) -> Result<(), NoMemory>
         requires { TakesReply (command_talk self.old (state_of desk.old) []).next reply.now }
         ensures ok { OnOk result ((later : List AnyReply) →
@@ -175,8 +164,7 @@ fn named_command(
     ensures ok { IfOk result (λ family. (later : List AnyReply) →
         family_talk family (state_of desk.new) later ≡ command_of (name.now ∷ words.now) (state_of desk.old) later) }
     ensures desk { OnOk result (state_of desk.new ≡ (command_of (name.now ∷ words.now) (state_of desk.old) []).state) }
-    ensures err { OnErr result ((state_of desk.new ≡ state_of desk.old)
-        ⊎ (state_of desk.new ≡ begun_by (name.now ∷ words.now) (state_of desk.old))) }
+    ensures err { OnErr result (state_of desk.new ≡ state_of desk.old) }
 {
     if let Some(family) = plain_command(alloc, name, words)? {
         return Ok(family);

@@ -183,7 +183,7 @@ impl TextCommand {
                 text,
                 ..
             } => { cat_closed(&word, others, text, reply) }
-            TextCommand::CatEnd { word, text, .. } => closed(b"cat", &word, text, reply),
+            TextCommand::CatEnd { word, text, .. } => failed_after(text, b"cat", &word, reply),
             TextCommand::EchoOpen { word, text } => echo_opened(alloc, word, text, reply),
             TextCommand::EchoAppend {
                 word,
@@ -191,7 +191,7 @@ impl TextCommand {
                 file,
                 bytes,
             } => { echo_appended(alloc, word, hold, file, bytes, reply) }
-            TextCommand::EchoEnd { word, text, .. } => closed(b"echo", &word, text, reply),
+            TextCommand::EchoEnd { word, text, .. } => failed_after(text, b"echo", &word, reply),
         }
     }
 }
@@ -238,7 +238,7 @@ pub fn cat_files(mut words: VecDeque<Bytes>, text: Bytes) -> TextCommand
     }
 }
 
-// The command ends at an error behind the text so far.
+// The command is over: at an error behind the text so far, or with the text.
 fn failed_after(
     mut text: Bytes,
     command: &[u8],
@@ -251,13 +251,6 @@ fn failed_after(
         push_subject_error(&mut text, command, subject.as_slice(), *errno)?;
     }
     Ok(shown(text))
-}
-
-// The file is closed, and the command is over.
-fn closed(command: &[u8], word: &Bytes, text: Bytes, reply: &Reply) -> Result<TextCommand, NoMemory>
-    ensures { IfOk result (λ next. text_talk next ≡ closed_talk command.now word.now text shows reply.now) }
-{
-    failed_after(text, command, word, reply)
 }
 
 fn cat_closed(

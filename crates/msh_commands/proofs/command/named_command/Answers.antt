@@ -2,9 +2,9 @@ use Rattle.std.proofs.Common.{◌∙◌, ◌∷◌, subst, sym}
 use Rattle.vfs_model.specs.Command.{command, help_command, talk_or, unknown}
 use Rattle.vfs_model.specs.FileCommands.{file_command}
 use Rattle.vfs_model.specs.MappingCommands.{mapping_command}
-use Rattle.msh_commands.specs.FileTalks.{BeginsFile}
-use Rattle.msh_commands.specs.MappingTalks.{BeginsMapping}
-use Rattle.msh_commands.specs.State.{state_of}
+use Rattle.msh_file_commands.specs.FileTalks.{BeginsFile}
+use Rattle.msh_file_commands.specs.MappingTalks.{BeginsMapping}
+use Rattle.msh_desk.specs.State.{state_of}
 use Rattle.msh_commands.specs.declared.command.Family.TheVariants as family
 use Rattle.msh_commands.proofs.Starts.{begins_state, files_pass, mappings_begin, plain_pass}
 use Rattle.msh_commands.proofs.command.named_command.Goals as goal
