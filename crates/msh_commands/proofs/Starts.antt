@@ -6,7 +6,7 @@ use Rattle.vfs_model.specs.Command.{talk_or}
 use Rattle.vfs_model.specs.CopyCommands.{copy_command}
 use Rattle.vfs_model.specs.FolderCommands.{folder_command}
 use Rattle.vfs_model.specs.MountCommands.{mount_command}
-use Rattle.vfs_model.specs.Talk.{Talk}
+use Rattle.vfs_model.specs.Talk.{Talk, shows}
 use Rattle.vfs_model.specs.declared.shell_state.ShellState.{ShellState}
 use Rattle.msh_commands.specs.CommandTalks.{command_talk, family_talk}
 use Rattle.msh_file_commands.specs.FileTalks.{BeginsFile, file_talk}
@@ -41,15 +41,15 @@ pub files_pass : (found : Option Talk) (other : Talk) (before after : ShellState
 files_pass None other before after begins later = ap (λ state. other state later) (sym begins)
 files_pass (Some talk) other before after begins later = absurd begins
 
-pub mappings_begin : (found : Option Talk) (other : Talk) (state : ShellState) (command : MappingCommand) →
-    BeginsMapping found state (Some command) → (later : List Reply) → mapping_talk command state later ≡ talk_or found other state later
-mappings_begin None other state command begins later = absurd begins
-mappings_begin (Some talk) other state command begins later = begins later
+pub mappings_begin : (found : Option Talk) (other : Talk) (before after : ShellState) (command : MappingCommand) →
+    BeginsMapping found before (Some command) after → (later : List Reply) → mapping_talk command after later ≡ talk_or found other before later
+mappings_begin None other before after command begins later = absurd begins
+mappings_begin (Some talk) other before after command begins later = begins later
 
-pub mappings_pass : (found : Option Talk) (other : Talk) (state : ShellState) →
-    BeginsMapping found state None → (later : List Reply) → talk_or found other state later ≡ other state later
-mappings_pass None other state begins later = refl
-mappings_pass (Some talk) other state begins later = absurd begins
+pub mappings_pass : (found : Option Talk) (other : Talk) (before after : ShellState) →
+    BeginsMapping found before None after → (later : List Reply) → talk_or found other before later ≡ other after later
+mappings_pass None other before after begins later = ap (λ state. other state later) (sym begins)
+mappings_pass (Some talk) other before after begins later = absurd begins
 
 pub plain_pass : (family : Option Family) (name : List ℕ) (words : List (List ℕ)) (other : Talk) → family ≡ None →
     ((rest : Talk) → talk_or (option_map family_talk family) rest
@@ -112,3 +112,8 @@ commands_ask c state = families_ask c.family state
 pub begins_state : (c : Family) (after before : ShellState) (talk : Talk) →
     ((later : List Reply) → family_talk c after later ≡ talk before later) → after ≡ (talk before []).state
 begins_state c after before talk begins = sym (families_ask c after) ∙ ap (λ answer. answer.state) (begins [])
+
+-- a line of no family leaves the state as it is, and shows this text
+pub shown_state : (text : List ℕ) (rest : Talk) (after before : ShellState) (talk : Talk) → shows text ≡ rest →
+    rest after [] ≡ talk before [] → after ≡ (talk before []).state
+shown_state text rest after before talk same passed = ap (λ answer. answer.state) (ap (λ (shown : Talk). shown after []) same ∙ passed)
