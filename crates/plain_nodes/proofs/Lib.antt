@@ -1,0 +1,7 @@
+pub mod Contents
+pub mod Entries
+pub mod FreeRows
+pub mod Puts
+pub mod Sets
+pub mod Sized
+pub mod Walks
