@@ -1,3 +1,2 @@
 pub mod Exit
 pub mod FdFault
-pub mod FdTable

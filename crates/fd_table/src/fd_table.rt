@@ -1,9 +1,9 @@
 //! The descriptors and open files of one shell.
 
-ghost use Rattle.std.specs.Prelude.{◌≡◌, ◌≤◌, Ok, Err, IfOk, OnOk, IfErr, OnErr, option_map, slice_get};
+ghost use Rattle.std.specs.Prelude.{◌≡◌, Ok, Err, IfOk, OnOk, IfErr, OnErr, option_map, slice_get};
 ghost use Rattle.std.specs.List.{filter_map};
 ghost use Rattle.vfs_base.specs.declared.step.Step.TheVariants.{Close};
-ghost use Rattle.vfs_model.specs.OpenFiles.{add_file, close_file, dup_file, has_all_descriptors, is_last, open_file, opening_files, place_max, seek, set_place};
+ghost use Rattle.vfs_model.specs.OpenFiles.{add_file, close_file, dup_file, has_all_descriptors, is_last, open_file, opening_files, seek, set_place};
 ghost use Rattle.vfs_model.specs.Session.{close_step, files_to_close};
 ghost use Rattle.fd_table.specs.FdFault.{errno_of};
 
@@ -29,13 +29,13 @@ pub struct FdTable {
 
 impl Model for FdTable {
     ghost use Rattle.vfs_model.specs.declared.shell_state.OpenFiles.{OpenFiles};
-    ghost use Rattle.fd_table.specs.FdTable.{IsTable};
+    ghost use Rattle.vfs_model.specs.DescriptorLaws.{IsSound};
 
     ghost Value = { OpenFiles };
 
     ghost view = { λ table. record { descriptors = table.descriptors.items; files = table.files.items } };
 
-    ghost invariant = { λ table. IsTable (record { descriptors = table.descriptors.items; files = table.files.items }) };
+    ghost invariant = { λ table. IsSound (record { descriptors = table.descriptors.items; files = table.files.items }) };
 }
 
 impl FdTable {
@@ -59,7 +59,6 @@ impl FdTable {
     /// free (POSIX.1-2017, open).
     #[tactic(auto, unfolding(vfs_model::specs::OpenFiles::add_file))]
     pub fn add(&mut self, file: OpenFile) -> Result<u64, FdFault>
-        requires { file.place ≤ place_max }
         ensures ok { IfOk result
             (λ fd. add_file self.old file ≡ Ok (record { fd = fd; open_files = self.new })) }
         ensures err { IfErr result (λ fault. add_file self.old file ≡ Err (errno_of fault)) }
@@ -78,7 +77,6 @@ impl FdTable {
     /// The open file of a descriptor; `EBADF` where it is free or out of range.
     pub fn get(&self, fd: u64) -> Result<&OpenFile, FdFault>
         ensures ok { IfOk result (λ file. open_file self.now fd ≡ Ok file.now) }
-        ensures placed { IfOk result (λ file. file.now.place ≤ place_max) }
         ensures err { IfErr result (λ fault. open_file self.now fd ≡ Err (errno_of fault)) }
     {
         let Some(number) = number_at(&self.descriptors, fd) else {
@@ -94,7 +92,6 @@ impl FdTable {
     /// where the descriptor is free or out of range.
     #[tactic(auto, unfolding(vfs_model::specs::OpenFiles::set_place))]
     pub fn set_place(&mut self, fd: u64, place: u64) -> Result<(), FdFault>
-        requires { place ≤ place_max }
         ensures ok { OnOk result (set_place self.old fd place ≡ Ok self.new) }
         ensures err { IfErr result (λ fault. set_place self.old fd place ≡ Err (errno_of fault)) }
         ensures refused { OnErr result (self.new ≡ self.old) }

@@ -1,7 +1,7 @@
 //! Places of open files, and offsets between them.
 
-ghost use Rattle.std.specs.Prelude.{◌≡◌, Ok, Err, IfOk, IfErr, ◌≤◌};
-ghost use Rattle.vfs_model.specs.OpenFiles.{moved_place, place_max, sought_place, whence_place};
+ghost use Rattle.std.specs.Prelude.{◌≡◌, Ok, Err, IfOk, IfErr};
+ghost use Rattle.vfs_model.specs.OpenFiles.{moved_place, sought_place, whence_place};
 ghost use Rattle.fd_table.specs.FdFault.{errno_of};
 
 use crate::fd_fault::FdFault;
@@ -14,8 +14,7 @@ pub const PLACE_MAX: u64 = 0x8000_0000_0010_0000;
 
 /// The place so many bytes on, where no place is behind `PLACE_MAX`.
 pub fn moved_place(place: u64, count: u64) -> u64
-    ensures value { result ≡ moved_place place count }
-    ensures bound { result ≤ place_max }
+    ensures { result ≡ moved_place place count }
 {
     place.saturating_add(count).min(PLACE_MAX)
 }
@@ -35,7 +34,6 @@ pub(crate) fn whence_place(file: &OpenFile, whence: Whence) -> u64
 pub(crate) fn sought_place(from: u64, off: i64) -> Result<u64, FdFault>
     ensures ok { IfOk result (λ place. sought_place from off ≡ Ok place) }
     ensures err { IfErr result (λ fault. sought_place from off ≡ Err (errno_of fault)) }
-    ensures bound { IfOk result (λ place. place ≤ place_max) }
 {
     let place = from as i128 + off as i128;
     if place < 0 {

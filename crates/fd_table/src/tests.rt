@@ -1,7 +1,6 @@
 //! Descriptors that run out, places at the edges, and open files that descriptors share.
 
-ghost use Rattle.std.specs.Prelude.{◌≡◌, ◌≤◌};
-ghost use Rattle.vfs_model.specs.OpenFiles.{place_max};
+ghost use Rattle.std.specs.Prelude.{◌≡◌};
 
 use crate::{FdFault, FdTable, OpenFile, PLACE_MAX, Whence, moved_place};
 use std::alloc::Global;
@@ -44,7 +43,6 @@ fn seeks(
     whence: Whence,
     want: Result<u64, FdFault>,
 ) -> Result<(), NoMemory>
-    requires { place ≤ place_max }
 {
     let mut table = FdTable::new(alloc)?;
     let fd = table

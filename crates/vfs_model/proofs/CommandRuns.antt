@@ -49,6 +49,10 @@ shell_after state (posted ∷ later) = shell_after (line_talk posted.line state 
 abbrev pub asks : Step → Moment
 asks asked = record { next = next.Ask asked; own = [] }
 
+-- the step gives up a reference that only the command has
+abbrev pub gives_up : Step → Moment
+gives_up asked = record { next = next.Ask asked; own = asked ∷ [] }
+
 abbrev pub holds : List HoldId → Step → Moment
 holds own asked = record { next = next.Ask asked; own = closes own }
   where

@@ -20,7 +20,7 @@ closed-takes command word text go each reply.Done = each text
 closed-takes command word text go each (reply.Refused errno) = showing _
 closed-takes command word text go each _ = showing _
 
-closes-take : (command word : List ℕ) (hold : HoldId) (text : List ℕ) (go : List ℕ → Talk) → ((t : List ℕ) → TalkTakesReplies (go t)) →
+pub closes-take : (command word : List ℕ) (hold : HoldId) (text : List ℕ) (go : List ℕ → Talk) → ((t : List ℕ) → TalkTakesReplies (go t)) →
     TalkTakesReplies (closes command word hold text go)
 closes-take command word hold text go each = asking _ (step.Close hold) _ (closed-takes command word text go each)
 

@@ -6,9 +6,10 @@ use Rattle.vfs_base.specs.declared.kinds.Kind.TheVariants as kind
 use Rattle.vfs_base.specs.declared.reply.Reply.{Reply}
 use Rattle.vfs_base.specs.declared.reply.Reply.TheVariants as reply
 use Rattle.vfs_base.specs.declared.step.Step.TheVariants as step
-use Rattle.vfs_model.proofs.CommandRuns.{Moment, Posted, asks, moments, nothing, posts, says, shell, shell_after}
+use Rattle.vfs_model.proofs.CommandRuns.{Moment, Posted, asks, ends, gives_up, holds, moments, nothing, posts, says, shell, shell_after}
 use Rattle.vfs_model.proofs.ExampleSteps.{flags, hold, id, no, r, rw_creat}
 use Rattle.vfs_model.specs.Command.{opening_shell}
+use Rattle.vfs_model.specs.CommandText.{line}
 
 -- an opened file of this kind, in the slot and under the reference of one number
 abbrev pub opened : ℕ → Kind → Reply
@@ -53,7 +54,7 @@ pub a_file_is_written_and_read : moments opening_shell (
     ∷ (asks (step.Read (id 1 1) 7 9) ∷ says_bytes 0 [] ∷ [])
     ∷ (asks (step.Trunc (id 1 1) 1) ∷ nothing ∷ [])
     ∷ (asks (step.Sync (id 1 1)) ∷ nothing ∷ [])
-    ∷ (asks (step.Close (hold 1 1)) ∷ nothing ∷ [])
+    ∷ (gives_up (step.Close (hold 1 1)) ∷ nothing ∷ [])
     ∷ (says (codes "close: 3: EBADF") ∷ [])
     ∷ []
 unfolding shell
@@ -74,26 +75,37 @@ pub appended_bytes_go_to_the_end : moments opening_shell (
 unfolding shell
 appended_bytes_go_to_the_end = refl
 
--- a Trunc is asked for files in memory and on cells alone; where it is refused the descriptor is there all the same
+-- a Trunc is asked for files in memory and on cells alone; where it is refused the file is closed again and gets no
+-- descriptor
 pub an_opened_file_is_cut : moments opening_shell (
     posts (codes "open /f rw,creat,trunc") (opened 1 kind.Tmp ∷ reply.Done ∷ [])
-    ∷ posts (codes "open /g w,trunc") (opened 2 kind.Cell ∷ no errno.ENOMEM ∷ [])
-    ∷ posts (codes "open /u w,trunc") (opened 3 kind.Chr ∷ [])
+    ∷ posts (codes "open /g w,trunc") (opened 2 kind.Cell ∷ no errno.ENOMEM ∷ reply.Done ∷ [])
+    ∷ posts (codes "open /h w,trunc") (opened 3 kind.Cell ∷ no errno.EIO ∷ no errno.ENOMEM ∷ [])
+    ∷ posts (codes "open /u w,trunc") (opened 4 kind.Chr ∷ [])
     ∷ posts (codes "close 4") (reply.Done ∷ [])
     ∷ posts (codes "open /f r,trunc") (no errno.EINVAL ∷ [])
     ∷ posts (codes "open /x r") (no errno.ENOENT ∷ [])
     ∷ []) ≡
-    (asks (step.Open (codes "/f") (flags 23)) ∷ asks (step.Trunc (id 1 1) 0) ∷ says_fd 3 ∷ [])
-    ∷ (asks (step.Open (codes "/g") (flags 18)) ∷ asks (step.Trunc (id 2 1) 0) ∷ says (codes "open: /g: ENOMEM") ∷ [])
-    ∷ (asks (step.Open (codes "/u") (flags 18)) ∷ says_fd 5 ∷ [])
-    ∷ (asks (step.Close (hold 1 2)) ∷ nothing ∷ [])
+    (asks (step.Open (codes "/f") (flags 23)) ∷ holds (hold 1 1 ∷ []) (step.Trunc (id 1 1) 0) ∷ says_fd 3 ∷ [])
+    ∷ (asks (step.Open (codes "/g") (flags 18))
+        ∷ holds (hold 1 2 ∷ []) (step.Trunc (id 2 1) 0)
+        ∷ gives_up (step.Close (hold 1 2))
+        ∷ says (codes "open: /g: ENOMEM")
+        ∷ [])
+    ∷ (asks (step.Open (codes "/h") (flags 18))
+        ∷ holds (hold 1 3 ∷ []) (step.Trunc (id 3 1) 0)
+        ∷ gives_up (step.Close (hold 1 3))
+        ∷ ends (line (codes "open: /h: EIO") ++ line (codes "open: /h: ENOMEM"))
+        ∷ [])
+    ∷ (asks (step.Open (codes "/u") (flags 18)) ∷ says_fd 4 ∷ [])
+    ∷ (gives_up (step.Close (hold 1 4)) ∷ nothing ∷ [])
     ∷ (asks (step.Open (codes "/f") (flags 17)) ∷ says (codes "open: /f: EINVAL") ∷ [])
     ∷ (asks (step.Open (codes "/x") r) ∷ says (codes "open: /x: ENOENT") ∷ [])
     ∷ []
 unfolding shell
 an_opened_file_is_cut = refl
 
--- descriptors of one open file share its place, and the last one closes it
+-- descriptors of one open file share its place, and the last one closes it; it goes also where the Close is refused
 pub dup_shares_the_place : moments opening_shell (
     posts (codes "open /f r") (opened 1 kind.Tmp ∷ [])
     ∷ posts (codes "dup 3") []
@@ -105,7 +117,7 @@ pub dup_shares_the_place : moments opening_shell (
     ∷ posts (codes "lseek 3 0 cur") []
     ∷ posts (codes "close 4") []
     ∷ posts (codes "close 3") (no errno.ENOMEM ∷ [])
-    ∷ posts (codes "close 3") (reply.Done ∷ [])
+    ∷ posts (codes "close 3") []
     ∷ posts (codes "dup 3") []
     ∷ []) ≡
     (asks (step.Open (codes "/f") r) ∷ says_fd 3 ∷ [])
@@ -117,8 +129,8 @@ pub dup_shares_the_place : moments opening_shell (
     ∷ (says_fd 3 ∷ [])
     ∷ (says_number 5 ∷ [])
     ∷ (nothing ∷ [])
-    ∷ (asks (step.Close (hold 1 1)) ∷ says (codes "close: 3: ENOMEM") ∷ [])
-    ∷ (asks (step.Close (hold 1 1)) ∷ nothing ∷ [])
+    ∷ (gives_up (step.Close (hold 1 1)) ∷ says (codes "close: 3: ENOMEM") ∷ [])
+    ∷ (says (codes "close: 3: EBADF") ∷ [])
     ∷ (says (codes "dup: 3: EBADF") ∷ [])
     ∷ []
 unfolding shell
@@ -202,7 +214,7 @@ pub descriptors_run_out : moments (shell_after opening_shell sixteen) (
     (says (codes "open: /absent: EMFILE") ∷ [])
     ∷ (says (codes "dup: 18: EMFILE") ∷ [])
     ∷ (says (codes "dup: 19: EBADF") ∷ [])
-    ∷ (asks (step.Close (hold 1 1)) ∷ nothing ∷ [])
+    ∷ (gives_up (step.Close (hold 1 1)) ∷ nothing ∷ [])
     ∷ (says_fd 7 ∷ [])
     ∷ (nothing ∷ [])
     ∷ (asks (step.Open (codes "/f") r) ∷ says_fd 7 ∷ [])

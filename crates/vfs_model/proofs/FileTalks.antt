@@ -4,41 +4,39 @@ use Rattle.vfs_base.specs.declared.errno.Errno.TheVariants as errno
 use Rattle.vfs_base.specs.declared.reply.Reply.{Reply}
 use Rattle.vfs_base.specs.declared.reply.Reply.TheVariants as reply
 use Rattle.vfs_base.specs.declared.step.Step.TheVariants as step
-use Rattle.vfs_base.specs.declared.kinds.Kind.{Kind}
-use Rattle.vfs_base.specs.declared.ids.FileId.{FileId}
 use Rattle.vfs_model.proofs.ReplyTaking.{asking, changing-takes, checked-takes, if-takes, meaning-takes, one-takes, showing, three-take, two-take, OptionTakes, known}
 use Rattle.vfs_model.specs.ShellLaws.{TalkTakesReplies}
-use Rattle.vfs_model.specs.Talk.{Talk}
+use Rattle.vfs_model.specs.Talk.{Talk, shows}
 use Rattle.std.specs.Prelude.{ℤ, ◌&&◌, ◌*◌}
 use Rattle.vfs_base.specs.declared.flags.OpenFlags.{OpenFlags}
-use Rattle.vfs_model.proofs.FolderTalks.{step-takes}
+use Rattle.vfs_model.proofs.CopyTalks.{closes-take as closing}
+use Rattle.vfs_model.proofs.FolderTalks.{done-takes, step-takes}
 use Rattle.vfs_model.specs.Chain.{refuse◌when◌}
 use Rattle.vfs_model.specs.CommandWords.{flags_of, meaning, number_of, offset_of}
 use Rattle.vfs_model.specs.CopyCommands.{is_cut}
 use Rattle.vfs_model.specs.FileCommands.{cut_checks, cut_file, file_command, fsync, ftruncate, ftruncate_form, lseek, lseek_file, lseek_form, placed_file, read, read_checks, read_file, read_form, read_replied, seek_from, seek_place, seek_sized, sync_file, write, write_checks, write_file, write_form, write_replied}
-use Rattle.vfs_model.specs.OpenCommands.{add_opened, close, close_descriptor, close_last, close_replied, cut_done, cut_opened, dup, dup_descriptor, open_form, open_path, open_replied, open_words}
+use Rattle.vfs_model.specs.OpenCommands.{add_opened, close, close_descriptor, close_last, cut_opened, cut_replied, dup, dup_descriptor, open_form, open_path, open_replied, open_words}
 use Rattle.vfs_model.specs.OpenFiles.{add_file, close_file, dup_file, has_all_descriptors, open_file, seek}
 use Rattle.vfs_model.specs.OpenStep.{truncates}
 use Rattle.vfs_model.specs.declared.shell_state.OpenFile.{OpenFile}
-use Rattle.vfs_model.specs.declared.shell_state.OpenFiles.{OpenFiles}
 use Rattle.vfs_model.specs.declared.shell_state.Whence.{Whence}
 
-cut-done-takes : (word : List ℕ) (fd : ℕ) (reply : Reply) → TalkTakesReplies (cut_done word fd reply)
-cut-done-takes word fd reply.Done = showing _
-cut-done-takes word fd (reply.Refused errno) = showing _
-cut-done-takes word fd _ = showing _
+add-takes : (word : List ℕ) (file : OpenFile) → TalkTakesReplies (add_opened word file)
+add-takes word file state =
+    checked-takes _ (add_file state.open_files file) _ (λ errno. showing _) (λ new. changing-takes _ _ (showing _)) state
 
-cut-takes : (word : List ℕ) (flags : OpenFlags) (file : FileId) (kind : Kind) (fd : ℕ) → TalkTakesReplies (cut_opened word flags file kind fd)
-cut-takes word flags file kind fd =
-    if-takes (truncates flags && is_cut kind) _ _ (asking [] (step.Trunc file 0) _ (cut-done-takes word fd)) (showing _)
+cut-replied-takes : (word : List ℕ) (file : OpenFile) (reply : Reply) → TalkTakesReplies (cut_replied word file reply)
+cut-replied-takes word file reply.Done = add-takes word file
+cut-replied-takes word file (reply.Refused errno) = closing (codes "open") word file.hold _ shows showing
+cut-replied-takes word file _ = showing _
 
-add-takes : (word : List ℕ) (flags : OpenFlags) (file : OpenFile) → TalkTakesReplies (add_opened word flags file)
-add-takes word flags file state =
-    checked-takes _ (add_file state.open_files file) _ (λ errno. showing _)
-    (λ new. changing-takes _ _ (cut-takes word flags file.file file.kind new.fd)) state
+cut-takes : (word : List ℕ) (flags : OpenFlags) (file : OpenFile) → TalkTakesReplies (cut_opened word flags file)
+cut-takes word flags file =
+    if-takes (truncates flags && is_cut file.kind) _ _
+    (asking (step.Close file.hold ∷ []) (step.Trunc file.file 0) _ (cut-replied-takes word file)) (add-takes word file)
 
 opened-takes : (word : List ℕ) (flags : OpenFlags) (reply : Reply) → TalkTakesReplies (open_replied word flags reply)
-opened-takes word flags (reply.Opened hold file kind) = add-takes word flags _
+opened-takes word flags (reply.Opened hold file kind) = cut-takes word flags _
 opened-takes word flags (reply.Refused errno) = showing _
 opened-takes word flags _ = showing _
 
@@ -121,19 +119,14 @@ sync-takes : (word : List ℕ) (fd : ℕ) → TalkTakesReplies (sync_file word f
 sync-takes word fd state = checked-takes _ (open_file state.open_files fd) _ (λ errno. showing _)
     (λ file. step-takes (codes "fsync") word (step.Sync file.file)) state
 
-close-replied-takes : (word : List ℕ) (left : OpenFiles) (reply : Reply) → TalkTakesReplies (close_replied word left reply)
-close-replied-takes word left reply.Done = changing-takes _ _ (showing _)
-close-replied-takes word left (reply.Refused errno) = showing _
-close-replied-takes word left _ = showing _
-
-last-takes : (word : List ℕ) (left : OpenFiles) (last : Option OpenFile) → TalkTakesReplies (close_last word left last)
-last-takes word left None = changing-takes _ _ (showing _)
-last-takes word left (Some file) = asking [] (step.Close file.hold) _ (close-replied-takes word left)
+last-takes : (word : List ℕ) (last : Option OpenFile) → TalkTakesReplies (close_last word last)
+last-takes word None = showing _
+last-takes word (Some file) = asking (step.Close file.hold ∷ []) (step.Close file.hold) _ (done-takes (codes "close") word)
 
 close-takes : (word : List ℕ) (fd : ℕ) → TalkTakesReplies (close_descriptor word fd)
 close-takes word fd state =
     checked-takes _ (close_file state.open_files fd) _ (λ errno. showing _)
-    (λ closed. last-takes word closed.open_files closed.last) state
+    (λ closed. changing-takes _ _ (last-takes word closed.last)) state
 
 opens-take : (words : List (List ℕ)) → TalkTakesReplies (open_words words)
 opens-take words =

@@ -15,12 +15,12 @@ use Rattle.vfs_model.specs.Talk.{Talk, ask}
 use Rattle.vfs_base.specs.declared.reply.ListEntry.{ListEntry}
 use Rattle.vfs_model.specs.FolderCommands.{cd, done_or_fails, folder_command, is_absent, list_entries, list_file, list_node, listed, ls, mkdir, moved_to, mv, one_step, pwd, remove_all, removed, rm, rmdir, sized, stat, stat_file, stat_node, stat_size, tell_folder, told_folder}
 
-done : (command subject : List ℕ) (reply : Reply) → TalkTakesReplies (done_or_fails command subject reply)
-done command subject (reply.Refused errno) = showing _
-done command subject _ = showing _
+pub done-takes : (command subject : List ℕ) (reply : Reply) → TalkTakesReplies (done_or_fails command subject reply)
+done-takes command subject (reply.Refused errno) = showing _
+done-takes command subject _ = showing _
 
 pub step-takes : (command subject : List ℕ) (asked : Step) → TalkTakesReplies (one_step command subject asked)
-step-takes command subject asked = asking [] asked _ (done command subject)
+step-takes command subject asked = asking [] asked _ (done-takes command subject)
 
 told : (command : List ℕ) (reply : Reply) → TalkTakesReplies (told_folder command reply)
 told command (reply.At path) = changing-takes _ _ (showing _)

@@ -4,7 +4,7 @@ use Rattle.vfs_base.specs.declared.errno.Errno.TheVariants as errno
 use Rattle.vfs_base.specs.declared.kinds.Kind.TheVariants as kind
 use Rattle.vfs_base.specs.declared.reply.Reply.TheVariants as reply
 use Rattle.vfs_base.specs.declared.step.Step.TheVariants as step
-use Rattle.vfs_model.proofs.CommandRuns.{Moment, Posted, asks, moments, nothing, posts, says, shell, shell_after}
+use Rattle.vfs_model.proofs.CommandRuns.{Moment, Posted, asks, gives_up, moments, nothing, posts, says, shell, shell_after}
 use Rattle.vfs_model.proofs.ExampleSteps.{flags, hold, id, no, r, rw_creat}
 use Rattle.vfs_model.proofs.FileCommandExamples.{opened, says_bytes, says_fd, says_number}
 use Rattle.vfs_model.specs.Command.{opening_shell}
@@ -12,7 +12,7 @@ use Rattle.vfs_model.specs.Command.{opening_shell}
 abbrev pub says_window : ℕ → Moment
 says_window number = says (codes "window " ++ decimal number)
 
--- a mapping keeps a file that has lost its name and its descriptors
+-- a mapping keeps a file that has lost its name and its descriptors; it goes also where the Unmap is refused
 pub a_mapping_outlives_name_and_descriptor : moments opening_shell (
     posts (codes "open /f rw,creat") (opened 1 kind.Tmp ∷ [])
     ∷ posts (codes "write 3 hello") (reply.Count 5 5 ∷ [])
@@ -24,20 +24,20 @@ pub a_mapping_outlives_name_and_descriptor : moments opening_shell (
     ∷ posts (codes "mload 1 5 0") (reply.Got [] ∷ [])
     ∷ posts (codes "msync 1") (reply.Done ∷ [])
     ∷ posts (codes "munmap 1") (no errno.ENOMEM ∷ [])
-    ∷ posts (codes "munmap 1") (reply.Done ∷ [])
+    ∷ posts (codes "munmap 1") []
     ∷ posts (codes "mload 1 0 5") []
     ∷ []) ≡
     (asks (step.Open (codes "/f") rw_creat) ∷ says_fd 3 ∷ [])
     ∷ (asks (step.Write (id 1 1) 0 (codes "hello")) ∷ says_number 5 ∷ [])
     ∷ (asks (step.Map (hold 1 1)) ∷ says_window 1 ∷ [])
     ∷ (asks (step.Unlink (codes "/f")) ∷ nothing ∷ [])
-    ∷ (asks (step.Close (hold 1 1)) ∷ nothing ∷ [])
+    ∷ (gives_up (step.Close (hold 1 1)) ∷ nothing ∷ [])
     ∷ (asks (step.Store (id 1 1) 0 (codes "J")) ∷ says_number 1 ∷ [])
     ∷ (asks (step.Load (id 1 1) 0 5) ∷ says_bytes 5 (codes "Jello") ∷ [])
     ∷ (asks (step.Load (id 1 1) 5 0) ∷ says_bytes 0 [] ∷ [])
     ∷ (asks (step.Sync (id 1 1)) ∷ nothing ∷ [])
-    ∷ (asks (step.Unmap (hold 1 2)) ∷ says (codes "munmap: 1: ENOMEM") ∷ [])
-    ∷ (asks (step.Unmap (hold 1 2)) ∷ nothing ∷ [])
+    ∷ (gives_up (step.Unmap (hold 1 2)) ∷ says (codes "munmap: 1: ENOMEM") ∷ [])
+    ∷ (says (codes "munmap: 1: EINVAL") ∷ [])
     ∷ (says (codes "mload: 1: EINVAL") ∷ [])
     ∷ []
 unfolding shell
@@ -120,7 +120,7 @@ pub mappings_run_out : moments (shell_after opening_shell eight) (
     ∷ []) ≡
     (says (codes "mmap: 3: EACCES") ∷ [])
     ∷ (says (codes "mmap: 3: EMFILE") ∷ [])
-    ∷ (asks (step.Unmap (hold 1 2)) ∷ nothing ∷ [])
+    ∷ (gives_up (step.Unmap (hold 1 2)) ∷ nothing ∷ [])
     ∷ (asks (step.Map (hold 1 1)) ∷ says_window 5 ∷ [])
     ∷ (says (codes "munmap: 9: EINVAL") ∷ [])
     ∷ []

@@ -1,12 +1,12 @@
 -- The commands of mappings take replies as they should.
-use Rattle.std.specs.Prelude.{ℕ, Bool, true, Option, List, [], codes, length}
+use Rattle.std.specs.Prelude.{◌∷◌, ℕ, Bool, true, Option, List, [], codes, length}
 use Rattle.vfs_base.specs.declared.reply.Reply.{Reply}
 use Rattle.vfs_base.specs.declared.reply.Reply.TheVariants as reply
 use Rattle.vfs_base.specs.declared.step.Step.TheVariants as step
 use Rattle.vfs_model.proofs.ReplyTaking.{asking, changing-takes, checked-takes, four-take, meaning-takes, one-takes, showing, three-take, OptionTakes, known}
 use Rattle.vfs_model.specs.ShellLaws.{TalkTakesReplies}
-use Rattle.vfs_model.proofs.FolderTalks.{step-takes}
-use Rattle.vfs_model.specs.MappingCommands.{is_for_writing, mload, mload_form, mmap, mmap_form, mstore, mstore_form, msync, munmap, add_mapped, load_checks, load_mapped, load_replied, map_checks, map_file, map_replied, mapping_command, store_mapped, store_replied, sync_mapped, unmap, unmap_replied}
+use Rattle.vfs_model.proofs.FolderTalks.{done-takes, step-takes}
+use Rattle.vfs_model.specs.MappingCommands.{is_for_writing, mload, mload_form, mmap, mmap_form, mstore, mstore_form, msync, munmap, add_mapped, load_checks, load_mapped, load_replied, map_checks, map_file, map_replied, mapping_command, store_mapped, store_replied, sync_mapped, unmap}
 use Rattle.vfs_model.specs.CommandWords.{meaning, number_of}
 use Rattle.vfs_model.specs.Mappings.{add_mapping, check_mapping, mapping, remove_mapping}
 use Rattle.vfs_model.specs.declared.shell_state.OpenFile.{OpenFile}
@@ -50,15 +50,11 @@ sync-takes : (word : List ℕ) (number : ℕ) → TalkTakesReplies (sync_mapped 
 sync-takes word number state = checked-takes _ (mapping state.mappings number) _ (λ errno. showing _)
     (λ window. step-takes (codes "msync") word (step.Sync window.file)) state
 
-unmapped-takes : (word : List ℕ) (left : List (Option Window)) (reply : Reply) → TalkTakesReplies (unmap_replied word left reply)
-unmapped-takes word left reply.Done = changing-takes _ _ (showing _)
-unmapped-takes word left (reply.Refused errno) = showing _
-unmapped-takes word left _ = showing _
-
 unmap-takes : (word : List ℕ) (number : ℕ) → TalkTakesReplies (unmap word number)
 unmap-takes word number state =
     checked-takes _ (remove_mapping state.mappings number) _ (λ errno. showing _)
-    (λ taken. asking [] (step.Unmap taken.window.hold) _ (unmapped-takes word taken.mappings)) state
+    (λ taken. changing-takes _ _
+    (asking (step.Unmap taken.window.hold ∷ []) (step.Unmap taken.window.hold) _ (done-takes (codes "munmap") word))) state
 
 maps-take : (words : List (List ℕ)) → TalkTakesReplies (mmap words)
 maps-take words =

@@ -1,5 +1,5 @@
 -- The commands of mappings.
-use Rattle.std.specs.Prelude.{ℕ, Bool, true, false, nat_lt, Option, Some, None, List, [], ◌++◌, length, codes, decimal, Result, Ok, if◌then◌else◌}
+use Rattle.std.specs.Prelude.{ℕ, Bool, true, false, nat_lt, Option, Some, None, List, [], ◌∷◌, ◌++◌, length, codes, decimal, Result, Ok, if◌then◌else◌}
 use Rattle.vfs_base.specs.declared.errno.Errno.{Errno}
 use Rattle.vfs_base.specs.declared.errno.Errno.TheVariants as errno
 use Rattle.vfs_base.specs.declared.limits.TheConstants.{READ_MAX}
@@ -9,10 +9,10 @@ use Rattle.vfs_base.specs.declared.step.Step.TheVariants as step
 use Rattle.vfs_model.specs.Chain.{◌>>=◌, ◌>>◌, refuse◌when◌}
 use Rattle.vfs_model.specs.CommandText.{bytes_line, fails, line, number_line}
 use Rattle.vfs_model.specs.CommandWords.{four_words, meaning, number_of, one_word, same_word, three_words}
-use Rattle.vfs_model.specs.FolderCommands.{one_step}
+use Rattle.vfs_model.specs.FolderCommands.{done_or_fails, one_step}
 use Rattle.vfs_model.specs.Mappings.{FilePlace, add_mapping, check_mapping, has_all_mappings, mapping, may_map, remove_mapping}
 use Rattle.vfs_model.specs.OpenFiles.{open_file}
-use Rattle.vfs_model.specs.Talk.{Talk, ask, changing, checked, shows}
+use Rattle.vfs_model.specs.Talk.{Talk, ask, ask_holding, changing, checked, shows}
 use Rattle.vfs_model.specs.declared.shell_state.OpenFile.{OpenFile}
 use Rattle.vfs_model.specs.declared.shell_state.ShellState.{ShellState}
 use Rattle.vfs_model.specs.declared.shell_state.Window.{Window}
@@ -112,16 +112,12 @@ sync_mapped word number state =
 abbrev pub msync : List (List ℕ) → Talk
 msync words = one_word (codes "msync W") (λ word. meaning (codes "msync W") (number_of word) (sync_mapped word)) words
 
--- the mapping goes with the reply; where the Unmap is refused it stays
-abbrev pub unmap_replied : List ℕ → List (Option Window) → Reply → Talk
-unmap_replied word left reply.Done = changing (with_mappings left) (shows [])
-unmap_replied word left (reply.Refused errno) = fails (codes "munmap") word errno
-unmap_replied word left _ = shows []
-
+-- the mapping is given up when the Unmap is asked, whatever the reply
 abbrev pub unmap : List ℕ → ℕ → Talk
 unmap word number state =
     checked (fails (codes "munmap") word) (remove_mapping state.mappings number)
-    (λ taken. ask (step.Unmap taken.window.hold) (unmap_replied word taken.mappings)) state
+    (λ taken. changing (with_mappings taken.mappings)
+    (ask_holding (step.Unmap taken.window.hold ∷ []) (step.Unmap taken.window.hold) (done_or_fails (codes "munmap") word))) state
 
 abbrev pub munmap : List (List ℕ) → Talk
 munmap words = one_word (codes "munmap W") (λ word. meaning (codes "munmap W") (number_of word) (unmap word)) words

@@ -1,5 +1,5 @@
 -- The commands that make and take away descriptors: `open`, `dup` and `close`.
-use Rattle.std.specs.Prelude.{ℕ, ◌==◌, bit_and, Bool, ◌&&◌, Option, Some, None, List, [], ◌++◌, codes, decimal, if◌then◌else◌}
+use Rattle.std.specs.Prelude.{ℕ, ◌==◌, bit_and, Bool, ◌&&◌, Option, Some, None, List, [], ◌∷◌, ◌++◌, codes, decimal, if◌then◌else◌}
 use Rattle.vfs_base.specs.declared.errno.Errno.TheVariants as errno
 use Rattle.vfs_base.specs.declared.flags.OpenFlags.{OpenFlags}
 use Rattle.vfs_base.specs.declared.ids.FileId.{FileId}
@@ -9,12 +9,14 @@ use Rattle.vfs_base.specs.declared.reply.Reply.{Reply}
 use Rattle.vfs_base.specs.declared.reply.Reply.TheVariants as reply
 use Rattle.vfs_base.specs.declared.step.Step.TheVariants as step
 use Rattle.vfs_model.specs.Chain.{refuse◌when◌}
-use Rattle.vfs_model.specs.CommandText.{fails, line}
+use Rattle.vfs_model.specs.CommandText.{fails, line, subject_error_line}
 use Rattle.vfs_model.specs.CommandWords.{flags_of, meaning, number_of, one_word, two_words}
 use Rattle.vfs_model.specs.CopyCommands.{is_cut}
+use Rattle.vfs_model.specs.FolderCommands.{done_or_fails}
 use Rattle.vfs_model.specs.OpenFiles.{add_file, close_file, dup_file, has_all_descriptors}
 use Rattle.vfs_model.specs.OpenStep.{for_reading, for_writing, truncates}
-use Rattle.vfs_model.specs.Talk.{Talk, ask, changing, checked, shows}
+use Rattle.vfs_model.specs.Talk.{Talk, ask, ask_holding, changing, checked, shows}
+use Rattle.vfs_model.specs.TextCommands.{closes}
 use Rattle.vfs_model.specs.declared.shell_state.OpenFile.{OpenFile}
 use Rattle.vfs_model.specs.declared.shell_state.OpenFiles.{OpenFiles}
 use Rattle.vfs_model.specs.declared.shell_state.ShellState.{ShellState}
@@ -41,24 +43,27 @@ opened_file hold file kind flags = record {
   place = 0;
 }
 
-abbrev pub cut_done : List ℕ → ℕ → Reply → Talk
-cut_done word fd reply.Done = shows (descriptor_line fd)
-cut_done word fd (reply.Refused errno) = fails (codes "open") word errno
-cut_done word fd _ = shows []
+-- the open file gets its descriptor
+abbrev pub add_opened : List ℕ → OpenFile → Talk
+add_opened word file state =
+    checked (fails (codes "open") word) (add_file state.open_files file)
+    (λ new. changing (with_open_files new.open_files) (shows (descriptor_line new.fd))) state
+
+-- a file that was to be cut, and wasn't, is closed again and gets no descriptor
+abbrev pub cut_replied : List ℕ → OpenFile → Reply → Talk
+cut_replied word file reply.Done = add_opened word file
+cut_replied word file (reply.Refused errno) =
+    closes (codes "open") word file.hold (subject_error_line (codes "open") word errno) shows
+cut_replied word file _ = shows []
 
 -- the file is cut to no bytes where that was asked for, also one that this very command made
-abbrev pub cut_opened : List ℕ → OpenFlags → FileId → Kind → ℕ → Talk
-cut_opened word flags file kind fd =
-    if truncates flags && is_cut kind then ask (step.Trunc file 0) (cut_done word fd) else shows (descriptor_line fd)
-
--- the descriptor is there from now on, whatever a Trunc replies
-abbrev pub add_opened : List ℕ → OpenFlags → OpenFile → Talk
-add_opened word flags file state =
-    checked (fails (codes "open") word) (add_file state.open_files file)
-    (λ new. changing (with_open_files new.open_files) (cut_opened word flags file.file file.kind new.fd)) state
+abbrev pub cut_opened : List ℕ → OpenFlags → OpenFile → Talk
+cut_opened word flags file =
+    if truncates flags && is_cut file.kind
+    then ask_holding (step.Close file.hold ∷ []) (step.Trunc file.file 0) (cut_replied word file) else add_opened word file
 
 abbrev pub open_replied : List ℕ → OpenFlags → Reply → Talk
-open_replied word flags (reply.Opened hold file kind) = add_opened word flags (opened_file hold file kind flags)
+open_replied word flags (reply.Opened hold file kind) = cut_opened word flags (opened_file hold file kind flags)
 open_replied word flags (reply.Refused errno) = fails (codes "open") word errno
 open_replied word flags _ = shows []
 
@@ -82,21 +87,16 @@ dup_descriptor word fd state =
 abbrev pub dup : List (List ℕ) → Talk
 dup words = one_word (codes "dup FD") (λ word. meaning (codes "dup FD") (number_of word) (dup_descriptor word)) words
 
--- the descriptor goes with the reply; where the Close is refused it stays
-abbrev pub close_replied : List ℕ → OpenFiles → Reply → Talk
-close_replied word left reply.Done = changing (with_open_files left) (shows [])
-close_replied word left (reply.Refused errno) = fails (codes "close") word errno
-close_replied word left _ = shows []
-
 -- the open file is closed with its last descriptor, and a further descriptor goes without a step
-abbrev pub close_last : List ℕ → OpenFiles → Option OpenFile → Talk
-close_last word left None = changing (with_open_files left) (shows [])
-close_last word left (Some file) = ask (step.Close file.hold) (close_replied word left)
+abbrev pub close_last : List ℕ → Option OpenFile → Talk
+close_last word None = shows []
+close_last word (Some file) = ask_holding (step.Close file.hold ∷ []) (step.Close file.hold) (done_or_fails (codes "close") word)
 
+-- the descriptor is given up when the Close is asked, whatever the reply
 abbrev pub close_descriptor : List ℕ → ℕ → Talk
 close_descriptor word fd state =
     checked (fails (codes "close") word) (close_file state.open_files fd)
-    (λ closed. close_last word closed.open_files closed.last) state
+    (λ closed. changing (with_open_files closed.open_files) (close_last word closed.last)) state
 
 abbrev pub close : List (List ℕ) → Talk
 close words = one_word (codes "close FD") (λ word. meaning (codes "close FD") (number_of word) (close_descriptor word)) words

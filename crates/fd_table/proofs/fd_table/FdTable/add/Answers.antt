@@ -18,7 +18,7 @@ index_mut-requires-2 c =
     let place : c.first_free-place.result ≡ position_or_len is_none c.self.inside.descriptors.items =
     c.first_free-place.ensures ∙ ap (λ (xs : List (Option ℕ)). position_or_len is_none xs) c.deref-2.ensures.value in
     let within = free-within (record { descriptors = c.self.inside.descriptors.items; files = c.self.inside.files.items }) c.self.invariant free in
-    let length = c.self.invariant.sound.descriptors in
+    let length = c.self.invariant.descriptors in
     rw place (omega arith)
 
 pub overflow_add-result : goal.overflow_add-result
@@ -36,4 +36,4 @@ invariant_of-self c =
     c.first_free-place.ensures ∙ ap (λ (xs : List (Option ℕ)). position_or_len is_none xs) c.deref-2.ensures.value in
     let number : c.first_free-number.result ≡ position_or_len is_none c.self.inside.files.items =
     c.first_free-number.ensures ∙ ap (λ (xs : List (Option OpenFile)). position_or_len is_none xs) c.deref-3.ensures.value in
-    rw (place, number) (add-kept (record { descriptors = c.self.inside.descriptors.items; files = c.self.inside.files.items }) c.args.file c.self.invariant c.requires free)
+    rw (place, number) (add-kept (record { descriptors = c.self.inside.descriptors.items; files = c.self.inside.files.items }) c.args.file c.self.invariant free)

@@ -10,7 +10,7 @@ index_mut-requires c =
     let place : c.first_free-free.result ≡ position_or_len is_none c.self.inside.descriptors.items =
     c.first_free-free.ensures ∙ ap (λ (xs : List (Option ℕ)). position_or_len is_none xs) c.deref-3.ensures.value in
     let within = free-within (record { descriptors = c.self.inside.descriptors.items; files = c.self.inside.files.items }) c.self.invariant free in
-    let length = c.self.invariant.sound.descriptors in
+    let length = c.self.invariant.descriptors in
     rw place (omega arith)
 
 pub overflow_add-result : goal.overflow_add-result

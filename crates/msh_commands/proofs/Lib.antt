@@ -1,0 +1,12 @@
+pub mod CopyKeeps
+pub mod FileKeeps
+pub mod FileWords
+pub mod FolderKeeps
+pub mod Leaving
+pub mod MappingKeeps
+pub mod MappingWords
+pub mod MountKeeps
+pub mod ShownNames
+pub mod Starts
+pub mod TextKeeps
+pub mod WordCounts

@@ -1,0 +1,10 @@
+pub mod CommandTalks
+pub mod CopyTalks
+pub mod FileTalks
+pub mod FitsReply
+pub mod FolderTalks
+pub mod MappingTalks
+pub mod MountTalks
+pub mod ShownNames
+pub mod State
+pub mod TextTalks

@@ -1,0 +1,3 @@
+pub mod FitsReply
+pub mod ShownNames
+pub mod State

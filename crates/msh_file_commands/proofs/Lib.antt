@@ -1,0 +1,4 @@
+pub mod FileKeeps
+pub mod FileWords
+pub mod MappingKeeps
+pub mod MappingWords

@@ -1,0 +1,2 @@
+pub mod FileTalks
+pub mod MappingTalks

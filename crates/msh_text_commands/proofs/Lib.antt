@@ -1,0 +1,4 @@
+pub mod Advancing
+pub mod CopyKeeps
+pub mod TextKeeps
+pub mod WordCounts

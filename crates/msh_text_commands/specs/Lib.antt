@@ -1,0 +1,2 @@
+pub mod CopyTalks
+pub mod TextTalks

@@ -1,0 +1,4 @@
+pub mod FolderKeeps
+pub mod Leaving
+pub mod MountKeeps
+pub mod WordCounts

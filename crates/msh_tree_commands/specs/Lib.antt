@@ -1,0 +1,2 @@
+pub mod FolderTalks
+pub mod MountTalks
