@@ -1,6 +1,7 @@
 //! The steps on mounts and volumes, with their changes of rows.
 
 ghost use Rattle.std.specs.Prelude.{◌≡◌, true, IfOk, OnErr};
+ghost use Rattle.vfs_model.specs.StepForms.{TellsFolder};
 ghost use Rattle.vfs_base.specs.declared.step.Step.TheVariants as step;
 ghost use Rattle.vfs_model.specs.NamespaceStep.{shutdown_step};
 ghost use Rattle.vfs_model.specs.World.{namespace_part};
@@ -30,6 +31,7 @@ pub fn mkfs_in(
     name: &Bytes,
 ) -> Result<Reply, Stop>
     ensures told { Gives (leaving world.new) result (world_answer world.old session (step.Mkfs name.now)) }
+    ensures folder { IfOk result TellsFolder }
     ensures err { OnErr result (world.new ≡ world.old) }
     ensures sized { IsSized world.old.namespace → IsSized world.new.namespace }
 {
@@ -57,6 +59,7 @@ pub fn mount_in(
 ) -> Result<Reply, Stop>
     requires { IsSized world.old.namespace }
     ensures told { Gives (leaving world.new) result (world_answer world.old session (step.Mount source.now point.now fs.now)) }
+    ensures folder { IfOk result TellsFolder }
     ensures err { OnErr result (world.new ≡ world.old) }
     ensures sized { IsSized world.new.namespace }
 {
@@ -86,6 +89,7 @@ pub fn umount_in(
 ) -> Result<Reply, Stop>
     requires { IsSized world.old.namespace }
     ensures told { Gives (leaving world.new) result (world_answer world.old session (step.Umount point.now)) }
+    ensures folder { IfOk result TellsFolder }
     ensures err { OnErr result (world.new ≡ world.old) }
     ensures sized { IsSized world.new.namespace }
 {
@@ -101,6 +105,7 @@ pub fn umount_in(
 pub fn shut_down(world: &mut World, alloc: Global, mark: Mark) -> Result<Reply, NoMemory>
     requires { IsSized world.old.namespace }
     ensures told { IfOk result (λ reply. namespace_part world.old (shutdown_step world.old.namespace mark) step.Shutdown ≡ leaving world.new reply) }
+    ensures folder { IfOk result TellsFolder }
     ensures err { OnErr result (world.new ≡ world.old) }
     ensures sized { IsSized world.new.namespace }
 {

@@ -1,8 +1,8 @@
 -- A node that is moved, a reference and a working directory make no namespace larger than it may be.
-use Rattle.std.proofs.Common.{ℕ, ◌+◌, ◌-◌, ◌*◌, ◌≤◌, [], ◌∷◌, ◌++◌, length, drop, arith}
-use Rattle.std.specs.Prelude.{true, false, cond, not, ◌&&◌, Option, fold, map, filter}
+use Rattle.std.proofs.Common.{ℕ, zero, suc, List, ◌+◌, ◌-◌, ◌*◌, ◌≤◌, [], ◌∷◌, ◌++◌, length, drop, arith}
+use Rattle.std.specs.Prelude.{true, false, cond, not, ◌&&◌, Option, fold, map, filter, slice_index_or, slice_set}
 use Rattle.std.proofs.lemmas.List.{length-set}
-use Rattle.vfs_base.specs.Path.{Path}
+use Rattle.vfs_base.specs.Path.{Path, printed}
 use Rattle.vfs_base.specs.declared.kinds.NodeKind.{NodeKind}
 use Rattle.vfs_model.specs.Lookup.{covering_mount, is_prefix, rest_of}
 use Rattle.vfs_model.specs.Namespace.{Tree, same_path, tree_of, with_folder_of, with_reference}
@@ -55,6 +55,7 @@ sized_reference n k number reference s =
       generations = s.generations;
       references = omega (arith, same, s.references);
       folders = s.folders;
+      short = λ k. s.short k;
       mounts = s.mounts;
       places = s.places;
       trees = λ j. s.trees j;
@@ -65,14 +66,23 @@ sized_reference n k number reference s =
       unused = λ number h. s.unused number h;
     }
 
-pub sized_folder : (n : Namespace) (k : ℕ) (path : Path) → IsSized n → IsSized (with_folder_of n k path)
-sized_folder n k path s =
+short_at : (folders : List Path) (i : ℕ) (path : Path) (j : ℕ) → length (printed path) ≤ 1024 → length (printed (slice_index_or folders j [])) ≤ 1024 →
+    length (printed (slice_index_or (slice_set folders i path) j [])) ≤ 1024
+short_at [] i path j new old = old
+short_at (folder ∷ folders) zero path zero new old = new
+short_at (folder ∷ folders) zero path (suc j) new old = old
+short_at (folder ∷ folders) (suc i) path zero new old = old
+short_at (folder ∷ folders) (suc i) path (suc j) new old = short_at folders i path j new old
+
+pub sized_folder : (n : Namespace) (k : ℕ) (path : Path) → length (printed path) ≤ 1024 → IsSized n → IsSized (with_folder_of n k path)
+sized_folder n k path new s =
     let same = length-set n.folders (k - 1) path in
     record {
       lives = s.lives;
       generations = s.generations;
       references = s.references;
       folders = omega (arith, same, s.folders);
+      short = λ j. short_at n.folders (k - 1) path (j - 1) new (s.short j);
       mounts = s.mounts;
       places = s.places;
       trees = λ j. s.trees j;

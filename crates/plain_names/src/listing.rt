@@ -1,6 +1,7 @@
 //! What is in a folder, and the working directories of sessions.
 
-ghost use Rattle.std.specs.Prelude.{◌≡◌, ◌∷◌, ◌++◌, [], Ok, OnOk, OnErr, IfOk};
+ghost use Rattle.std.specs.Prelude.{◌≡◌, ◌≤◌, ◌∷◌, ◌++◌, [], Ok, OnOk, OnErr, IfOk, length};
+ghost use Rattle.vfs_base.specs.Path.{printed};
 ghost use Rattle.vfs_base.specs.declared.reply.Reply.TheVariants as reply;
 ghost use Rattle.vfs_model.specs.NameSteps.{chdir_step, cwd_step, entries_at, folder_refusals, home_step, is_entry_of, list_step};
 ghost use Rattle.vfs_model.specs.Namespace.{folder_of, with_folder_of};
@@ -104,6 +105,7 @@ pub fn chdir(
     path: &Bytes,
 ) -> Result<Path, Stop>
     ensures told { Gives (λ at. record { reply = reply.At at; next = namespace.new; changes = [] }) result (chdir_step namespace.old session path.now) }
+    ensures short { IfOk result (λ at. length (printed at) ≤ 1024) }
     ensures err { OnErr result (namespace.new ≡ namespace.old) }
     ensures sized { IsSized namespace.old → IsSized namespace.new }
 {
@@ -125,6 +127,7 @@ pub fn home(namespace: &mut Namespace, alloc: Global, session: SessionId)
 
 #[tactic(auto, using(crate::proofs::SizedNames::sized_folder))]
 fn set_folder(namespace: &mut Namespace, alloc: Global, session: SessionId, path: Path)
+    requires { length (printed path) ≤ 1024 }
     ensures next { namespace.new ≡ with_folder_of namespace.old session path }
     ensures sized { IsSized namespace.old → IsSized namespace.new }
 {
@@ -134,8 +137,9 @@ fn set_folder(namespace: &mut Namespace, alloc: Global, session: SessionId, path
 
 /// The session's working directory (POSIX.1-2017, getcwd).
 pub fn cwd(namespace: &Namespace, alloc: Global, session: SessionId) -> Result<Path, NoMemory>
-    ensures { IfOk result (λ at. cwd_step namespace.now session
+    ensures told { IfOk result (λ at. cwd_step namespace.now session
         ≡ Ok (record { reply = reply.At at; next = namespace.now; changes = [] })) }
+    ensures short { IfOk result (λ at. IsSized namespace.now → length (printed at) ≤ 1024) }
 {
     let place = session.number() as usize - 1;
     match namespace.folders.as_slice().get(place) {

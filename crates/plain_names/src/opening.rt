@@ -6,6 +6,7 @@ ghost use Rattle.vfs_model.specs.FileLife.{volume_at, volume_named};
 ghost use Rattle.vfs_model.specs.Lookup.{covering_mount, is_file, is_read_only, is_there, node_at};
 ghost use Rattle.vfs_model.specs.Namespace.{with_reference};
 ghost use Rattle.vfs_model.specs.OpenStep.{creates, least_free_number, open_at, for_reading, for_writing, has_no_room, is_exclusive, is_rom_node, is_without_cell, kind_of, least_spare_cell, make_file, new_backing, new_life, new_origin, open_refusals, open_step, truncates, with_file_at};
+ghost use Rattle.vfs_model.specs.StepForms.{TellsFolder};
 ghost use Rattle.plain_nodes.specs.Changes.{brings_no_bytes, brings_nothing, is_no_rom, row_change, row_changes};
 ghost use Rattle.plain_nodes.specs.Gives.{Gives};
 ghost use Rattle.plain_nodes.specs.Sizes.{IsSized};
@@ -39,6 +40,7 @@ pub fn open(
 ) -> Result<(Reply, Option<Change>), Stop>
     requires sized { IsSized namespace.old }
     ensures told { Gives (λ opened. record { reply = opened.0; next = namespace.new; changes = row_changes opened.1 }) result (open_step namespace.old session path.now flags) }
+    ensures folder { IfOk result (λ opened. TellsFolder opened.0) }
     ensures plain { IfOk result (λ opened. brings_nothing opened.1 ≡ true) }
     ensures err { OnErr result (namespace.new ≡ namespace.old) }
     ensures sized { IsSized namespace.new }
@@ -57,6 +59,7 @@ fn open_at(
 ) -> Result<(Reply, Option<Change>), Stop>
     requires sized { IsSized namespace.old }
     ensures told { Gives (λ opened. record { reply = opened.0; next = namespace.new; changes = row_changes opened.1 }) result (open_at namespace.old session path.now flags) }
+    ensures folder { IfOk result (λ opened. TellsFolder opened.0) }
     ensures plain { IfOk result (λ opened. brings_nothing opened.1 ≡ true) }
     ensures err { OnErr result (namespace.new ≡ namespace.old) }
     ensures sized { IsSized namespace.new }

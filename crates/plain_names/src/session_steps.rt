@@ -3,7 +3,8 @@
 //! A path is refused first by its text, which is its fault: `ENOENT` for no byte, `EINVAL` for a zero
 //! byte, `ENAMETOOLONG` for a name above 255 bytes or a path above 1024.
 
-ghost use Rattle.std.specs.Prelude.{◌≡◌, Ok, OnErr};
+ghost use Rattle.std.specs.Prelude.{◌≡◌, Ok, IfOk, OnErr};
+ghost use Rattle.vfs_model.specs.StepForms.{TellsFolder};
 ghost use Rattle.vfs_base.specs.declared.step.Step.TheVariants as step;
 ghost use Rattle.plain_nodes.specs.Gives.{Gives};
 ghost use Rattle.plain_nodes.specs.Sizes.{IsSized};
@@ -30,7 +31,8 @@ pub fn stat_in(
     session: SessionId,
     path: &Bytes,
 ) -> Result<Reply, Stop>
-    ensures { Gives (leaving world.now) result (world_answer world.now session (step.Stat path.now)) }
+    ensures told { Gives (leaving world.now) result (world_answer world.now session (step.Stat path.now)) }
+    ensures folder { IfOk result TellsFolder }
 {
     let node = stat(&world.namespace, alloc, session, path)?;
     Ok(Reply::Node { node })
@@ -46,7 +48,8 @@ pub fn list_in(
     session: SessionId,
     path: &Bytes,
 ) -> Result<Reply, Stop>
-    ensures { Gives (leaving world.now) result (world_answer world.now session (step.List path.now)) }
+    ensures told { Gives (leaving world.now) result (world_answer world.now session (step.List path.now)) }
+    ensures folder { IfOk result TellsFolder }
 {
     let (path, entries) = list(&world.namespace, alloc, session, path)?;
     Ok(Reply::Listing { path, entries })
@@ -54,7 +57,8 @@ pub fn list_in(
 
 /// The session's working directory (POSIX.1-2017, getcwd). Nothing refuses it.
 pub fn cwd_in(world: &World, alloc: Global, session: SessionId) -> Result<Reply, Stop>
-    ensures { Gives (leaving world.now) result (world_answer world.now session step.Cwd) }
+    ensures told { Gives (leaving world.now) result (world_answer world.now session step.Cwd) }
+    ensures folder { IsSized world.now.namespace → IfOk result TellsFolder }
 {
     let path = cwd(&world.namespace, alloc, session)?;
     Ok(Reply::At { path })
@@ -72,6 +76,7 @@ pub fn mkdir_in(
     path: &Bytes,
 ) -> Result<Reply, Stop>
     ensures told { Gives (leaving world.new) result (world_answer world.old session (step.Mkdir path.now)) }
+    ensures folder { IfOk result TellsFolder }
     ensures err { OnErr result (world.new ≡ world.old) }
     ensures sized { IsSized world.old.namespace → IsSized world.new.namespace }
 {
@@ -91,6 +96,7 @@ pub fn rmdir_in(
     path: &Bytes,
 ) -> Result<Reply, Stop>
     ensures told { Gives (leaving world.new) result (world_answer world.old session (step.Rmdir path.now)) }
+    ensures folder { IfOk result TellsFolder }
     ensures err { OnErr result (world.new ≡ world.old) }
     ensures sized { IsSized world.old.namespace → IsSized world.new.namespace }
 {
@@ -110,6 +116,7 @@ pub fn unlink_in(
     path: &Bytes,
 ) -> Result<Reply, Stop>
     ensures told { Gives (leaving world.new) result (world_answer world.old session (step.Unlink path.now)) }
+    ensures folder { IfOk result TellsFolder }
     ensures err { OnErr result (world.new ≡ world.old) }
     ensures sized { IsSized world.old.namespace → IsSized world.new.namespace }
 {
@@ -135,6 +142,7 @@ pub fn rename_in(
     new: &Bytes,
 ) -> Result<Reply, Stop>
     ensures told { Gives (leaving world.new) result (world_answer world.old session (step.Rename old.now new.now)) }
+    ensures folder { IfOk result TellsFolder }
     ensures err { OnErr result (world.new ≡ world.old) }
     ensures sized { IsSized world.old.namespace → IsSized world.new.namespace }
 {
@@ -155,6 +163,7 @@ pub fn chdir_in(
     path: &Bytes,
 ) -> Result<Reply, Stop>
     ensures told { Gives (leaving world.new) result (world_answer world.old session (step.Chdir path.now)) }
+    ensures folder { IfOk result TellsFolder }
     ensures err { OnErr result (world.new ≡ world.old) }
     ensures sized { IsSized world.old.namespace → IsSized world.new.namespace }
 {
@@ -165,6 +174,7 @@ pub fn chdir_in(
 /// Makes `/` the session's working directory. Nothing refuses it.
 pub fn home_in(world: &mut World, alloc: Global, session: SessionId) -> Reply
     ensures told { world_answer world.old session step.Home ≡ Ok (leaving world.new result) }
+    ensures folder { TellsFolder result }
     ensures sized { IsSized world.old.namespace → IsSized world.new.namespace }
 {
     home(&mut world.namespace, alloc, session);
@@ -187,6 +197,7 @@ pub fn open_in(
 ) -> Result<Reply, Stop>
     requires { IsSized world.old.namespace }
     ensures told { Gives (leaving world.new) result (world_answer world.old session (step.Open path.now flags)) }
+    ensures folder { IfOk result TellsFolder }
     ensures err { OnErr result (world.new ≡ world.old) }
     ensures sized { IsSized world.new.namespace }
 {
@@ -206,6 +217,7 @@ pub fn close_in(
     hold: &HoldId,
 ) -> Result<Reply, Stop>
     ensures told { Gives (leaving world.new) result (world_answer world.old session (step.Close hold.now)) }
+    ensures folder { IfOk result TellsFolder }
     ensures err { OnErr result (world.new ≡ world.old) }
     ensures sized { IsSized world.old.namespace → IsSized world.new.namespace }
 {
@@ -225,6 +237,7 @@ pub fn unmap_in(
     hold: &HoldId,
 ) -> Result<Reply, Stop>
     ensures told { Gives (leaving world.new) result (world_answer world.old session (step.Unmap hold.now)) }
+    ensures folder { IfOk result TellsFolder }
     ensures err { OnErr result (world.new ≡ world.old) }
     ensures sized { IsSized world.old.namespace → IsSized world.new.namespace }
 {
@@ -245,6 +258,7 @@ pub fn map_in(
     hold: &HoldId,
 ) -> Result<Reply, Stop>
     ensures told { Gives (leaving world.new) result (world_answer world.old session (step.Map hold.now)) }
+    ensures folder { IfOk result TellsFolder }
     ensures err { OnErr result (world.new ≡ world.old) }
     ensures sized { IsSized world.old.namespace → IsSized world.new.namespace }
 {

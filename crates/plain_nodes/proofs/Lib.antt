@@ -3,5 +3,6 @@ pub mod Entries
 pub mod FreeRows
 pub mod Puts
 pub mod Sets
+pub mod ShortPaths
 pub mod Sized
 pub mod Walks

@@ -1,9 +1,10 @@
 -- How many items the lists of a namespace have.
 use Rattle.std.specs.Prelude.{◌≡◌, ℕ, ◌≤◌, false, [], length, slice_index_or}
+use Rattle.vfs_base.specs.Path.{printed}
 use Rattle.vfs_model.specs.Consistency.{is_number}
 use Rattle.vfs_model.specs.Content.{no_rom}
 use Rattle.vfs_model.specs.FileLife.{volume_at}
-use Rattle.vfs_model.specs.Namespace.{tree_of}
+use Rattle.vfs_model.specs.Namespace.{folder_of, tree_of}
 use Rattle.vfs_model.specs.declared.namespace.Namespace.{Namespace}
 
 -- what code needs to number and to count what a namespace has
@@ -12,6 +13,7 @@ pub record IsSized (n : Namespace) : Type 0 where
   pub generations : length n.generations ≡ 1024
   pub references : length n.references ≤ 256
   pub folders : length n.folders ≤ 8
+  pub short : (k : ℕ) → length (printed (folder_of n k)) ≤ 1024
   pub mounts : length n.mounts ≤ 15
   pub places : length n.trees ≡ 16
   pub trees : (number : ℕ) → length (tree_of n number) ≤ 4096

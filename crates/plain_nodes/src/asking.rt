@@ -1,6 +1,7 @@
 //! The paths that sessions ask for.
 
-ghost use Rattle.std.specs.Prelude.{◌≡◌};
+ghost use Rattle.std.specs.Prelude.{◌≡◌, ◌≤◌, IfOk, length};
+ghost use Rattle.vfs_base.specs.Path.{printed};
 ghost use Rattle.vfs_model.specs.Lookup.{asked_path, or_errno};
 ghost use Rattle.vfs_model.specs.NormalPath.{normal_path};
 ghost use Rattle.vfs_model.specs.Namespace.{folder_of};
@@ -16,14 +17,15 @@ use vfs_path::{PathFault, normalise};
 ///
 /// # Errors
 /// `ENOENT` for no byte, `EINVAL` for a zero byte, `ENAMETOOLONG` for a name above 255 bytes or a path
-/// above 1024 (POSIX.1-2017, "Pathname Resolution").
+/// above 1024 (POSIX.1-2017, "Pathname Resolution"). So the path has at most 1024 printed bytes.
 pub fn asked_path(
     namespace: &Namespace,
     alloc: Global,
     session: SessionId,
     text: &Bytes,
 ) -> Result<Path, Stop>
-    ensures { Gives is_itself result (asked_path namespace.now session text.now) }
+    ensures told { Gives is_itself result (asked_path namespace.now session text.now) }
+    ensures short { IfOk result (λ path. length (printed path) ≤ 1024) }
 {
     let place = session.number() as usize - 1;
     match namespace.folders.as_slice().get(place) {
@@ -32,8 +34,10 @@ pub fn asked_path(
     }
 }
 
+#[tactic(auto, using(crate::proofs::ShortPaths::normal_short))]
 fn path_from(alloc: Global, folder: &Path, text: &Bytes) -> Result<Path, Stop>
-    ensures { Gives is_itself result (or_errno (normal_path folder.now text.now)) }
+    ensures told { Gives is_itself result (or_errno (normal_path folder.now text.now)) }
+    ensures short { IfOk result (λ path. length (printed path) ≤ 1024) }
 {
     match normalise(alloc, folder, text.as_slice()) {
         Ok(path) => Ok(path),

@@ -1,6 +1,7 @@
 //! The steps that list what there is.
 
-ghost use Rattle.std.specs.Prelude.{◌≡◌};
+ghost use Rattle.std.specs.Prelude.{◌≡◌, IfOk};
+ghost use Rattle.vfs_model.specs.StepForms.{TellsFolder};
 ghost use Rattle.vfs_base.specs.declared.step.Step.TheVariants as step;
 ghost use Rattle.plain_nodes.specs.Gives.{Gives};
 ghost use Rattle.plain_nodes.specs.Sizes.{IsSized};
@@ -17,7 +18,8 @@ use vfs_model::World;
 /// nodes or cells. Nothing refuses it.
 pub fn mounts_in(world: &World, alloc: Global, session: SessionId) -> Result<Reply, Stop>
     requires { IsSized world.now.namespace }
-    ensures { Gives (leaving world.now) result (world_answer world.now session step.Mounts) }
+    ensures told { Gives (leaving world.now) result (world_answer world.now session step.Mounts) }
+    ensures folder { IfOk result TellsFolder }
 {
     let lines = mount_lines(&world.namespace, alloc)?;
     Ok(Reply::MountList { lines })
@@ -27,7 +29,8 @@ pub fn mounts_in(world: &World, alloc: Global, session: SessionId) -> Result<Rep
 /// name, by slot. Nothing refuses it.
 pub fn dentries_in(world: &World, alloc: Global, session: SessionId) -> Result<Reply, Stop>
     requires { IsSized world.now.namespace }
-    ensures { Gives (leaving world.now) result (world_answer world.now session step.Dentries) }
+    ensures told { Gives (leaving world.now) result (world_answer world.now session step.Dentries) }
+    ensures folder { IfOk result TellsFolder }
 {
     let lines = holder_lines(&world.namespace, alloc)?;
     Ok(Reply::Holders { lines })
@@ -35,7 +38,8 @@ pub fn dentries_in(world: &World, alloc: Global, session: SessionId) -> Result<R
 
 /// The files of mounted volumes that stand at a path, by slot. Nothing refuses it.
 pub fn cells_in(world: &World, alloc: Global, session: SessionId) -> Result<Reply, Stop>
-    ensures { Gives (leaving world.now) result (world_answer world.now session step.Cells) }
+    ensures told { Gives (leaving world.now) result (world_answer world.now session step.Cells) }
+    ensures folder { IfOk result TellsFolder }
 {
     let files = cell_files(&world.namespace, alloc)?;
     Ok(Reply::Files { files })
@@ -44,7 +48,8 @@ pub fn cells_in(world: &World, alloc: Global, session: SessionId) -> Result<Repl
 /// The volumes, the character devices and the roms, each in the order handed in, and whether each is
 /// mounted. Nothing refuses it.
 pub fn devices_in(world: &World, alloc: Global, session: SessionId) -> Result<Reply, Stop>
-    ensures { Gives (leaving world.now) result (world_answer world.now session step.Devices) }
+    ensures told { Gives (leaving world.now) result (world_answer world.now session step.Devices) }
+    ensures folder { IfOk result TellsFolder }
 {
     let lines = device_lines(&world.namespace, alloc)?;
     Ok(Reply::DeviceList { lines })
