@@ -2,7 +2,7 @@
 
 ghost use Rattle.std.specs.Prelude.{◌≡◌, ◌≤◌, ◌↔◌, length, IsTrue};
 ghost use Rattle.vfs_base.specs.Path.{printed, slashed};
-ghost use Rattle.msh_desk.specs.FitsReply.{TellsFolder};
+ghost use Rattle.vfs_model.specs.StepForms.{TellsFolder};
 
 use vfs_base::{Name, PATH_MAX, Path, Reply};
 

@@ -5,7 +5,8 @@ ghost use Rattle.vfs_base.specs.declared.reply.Reply.{Reply as AnyReply};
 ghost use Rattle.vfs_model.specs.FolderCommands.{done_or_fails as done_talk, listed as listed_talk, moved_to as moved_talk, remove_all as remove_talk, removed as removed_talk, sized as sized_talk, list_entries, stat_node as stat_talk, stat_size as stat_size_talk, told_folder as told_talk};
 ghost use Rattle.vfs_model.specs.Talk.{shows};
 ghost use Rattle.vfs_model.specs.declared.shell_state.ShellState.{ShellState};
-ghost use Rattle.msh_desk.specs.FitsReply.{TakesReply, TellsFolder};
+ghost use Rattle.vfs_model.specs.StepForms.{TellsFolder};
+ghost use Rattle.msh_desk.specs.FitsReply.{TakesReply};
 ghost use Rattle.msh_tree_commands.specs.FolderTalks.{folder_talk, after_folder, after_reply, IsAsking};
 ghost use Rattle.msh_desk.specs.State.{state_of};
 

@@ -49,6 +49,7 @@ pub mod Session
 pub mod ShellLaws
 pub mod Shown
 pub mod Soak
+pub mod StepForms
 pub mod Summary
 pub mod Tables
 pub mod Talk

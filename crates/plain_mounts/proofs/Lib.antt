@@ -1,0 +1,9 @@
+pub mod Binds
+pub mod Brings
+pub mod ContentSizes
+pub mod Keeps
+pub mod Numbers
+pub mod SizedMounts
+pub mod SizedUnmounts
+pub mod Starts
+pub mod Unmounts

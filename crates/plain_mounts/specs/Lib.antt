@@ -1,0 +1,3 @@
+pub mod Leaving
+pub mod Mounting
+pub mod Unmounting

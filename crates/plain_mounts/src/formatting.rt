@@ -1,0 +1,74 @@
+//! Formatting a volume.
+
+ghost use Rattle.std.specs.Prelude.{◌≡◌, [], ◌<◌, OnOk, OnErr, length, replicate, slice_index_or, slice_set, true};
+ghost use Rattle.std.specs.List.{list_any};
+ghost use Rattle.vfs_base.specs.declared.reply.Reply.TheVariants as reply;
+ghost use Rattle.vfs_model.specs.FileLife.{no_volume, volume_named};
+ghost use Rattle.vfs_model.specs.Namespace.{same_bytes};
+ghost use Rattle.vfs_model.specs.UmountSteps.{format_volume, mkfs_step};
+ghost use Rattle.plain_nodes.specs.Gives.{Gives};
+ghost use Rattle.plain_nodes.specs.Sizes.{IsSized};
+
+use plain_nodes::sources::{has_volume, is_mounted, volume_named};
+use plain_nodes::stop::{Stop, refuse_when};
+use std::alloc::Global;
+use std::mem;
+use vfs_base::{Bytes, Errno, FsType, List, NoMemory};
+use vfs_model::{Namespace, VolumeState};
+
+/// Takes all names from a volume that no mount has, so that each of its cells is spare.
+///
+/// The bytes on its cells are dropped with the homes of the world.
+#[tactic(auto, unfolding(vfs_model::specs::UmountSteps::mkfs_step))]
+pub fn mkfs(namespace: &mut Namespace, alloc: Global, name: &Bytes) -> Result<(), Stop>
+    ensures told { Gives (λ _. record { reply = reply.Done; next = namespace.new; changes = [] }) result (mkfs_step namespace.old name.now) }
+    ensures err { OnErr result (namespace.new ≡ namespace.old) }
+    ensures sized { IsSized namespace.old → IsSized namespace.new }
+{
+    refuse_when(
+        Errno::ENXIO,
+        !has_volume(namespace.volumes.as_slice(), name.as_slice()),
+    )?;
+    refuse_when(
+        Errno::EBUSY,
+        is_mounted(namespace, FsType::Cell, name.as_slice()),
+    )?;
+    format_volume(namespace, alloc, name.as_slice())?;
+    Ok(())
+}
+
+// Takes all names from the volume of this name, so that each of its cells is spare.
+#[tactic(auto, using(crate::proofs::SizedUnmounts::sized_format))]
+fn format_volume(namespace: &mut Namespace, alloc: Global, name: &[u8]) -> Result<(), NoMemory>
+    ensures ok { OnOk result (namespace.new ≡ format_volume namespace.old (volume_named namespace.old name.now)) }
+    ensures err { OnErr result (namespace.new ≡ namespace.old) }
+    ensures sized { IsSized namespace.old → IsSized namespace.new }
+{
+    let place = volume_named(namespace, name);
+    format_at(&mut namespace.volumes, alloc, place)
+}
+
+fn format_at(volumes: &mut List<VolumeState>, alloc: Global, place: usize) -> Result<(), NoMemory>
+    ensures ok { OnOk result (let volume = slice_index_or volumes.old place no_volume in
+        volumes.new ≡ slice_set volumes.old place (record volume { spare = replicate (length volume.pages) true; kept = [] })) }
+    ensures err { OnErr result (volumes.new ≡ volumes.old) }
+{
+    let mut items = mem::replace(volumes, List::new(alloc)).into_vec();
+    let formatted = if place < items.len() {
+        format(&mut items[place], alloc)
+    } else {
+        Ok(())
+    };
+    *volumes = List::from_vec(items);
+    formatted
+}
+
+fn format(volume: &mut VolumeState, alloc: Global) -> Result<(), NoMemory>
+    ensures ok { OnOk result (volume.new ≡ record volume.old { spare = replicate (length volume.old.pages) true; kept = [] }) }
+    ensures err { OnErr result (volume.new ≡ volume.old) }
+{
+    let spare = Vec::from_elem(alloc, true, volume.pages.len())?;
+    volume.spare = List::from_vec(spare);
+    volume.kept.clear();
+    Ok(())
+}

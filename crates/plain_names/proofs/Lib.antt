@@ -1,0 +1,4 @@
+pub mod Filters
+pub mod Made
+pub mod Moves
+pub mod SizedNames
