@@ -1,0 +1,1 @@
+//! Scripts and schedules that are read, and the lines of a seed.
