@@ -1,5 +1,5 @@
 -- Lemmas on the lines of a script.
-use Rattle.std.proofs.Common.{◌≡◌, ℕ, suc, ◌+◌, ◌-◌, ◌<◌, ◌≤◌, ◌==◌, Bool, true, false, not, cond, Option, Some, None, List, [], ◌∷◌, ◌++◌, length, take, drop, get_or, refl, arith, add-one}
+use Rattle.std.proofs.Common.{◌≡◌, ℕ, zero, suc, ◌+◌, ◌-◌, ◌<◌, ◌≤◌, ◌==◌, Bool, true, false, not, cond, Option, Some, None, List, [], ◌∷◌, ◌++◌, length, take, drop, get_or, refl, arith, add-one}
 use Rattle.std.proofs.lemmas.Bool.{false_from_ne_true}
 use Rattle.memchr.specs.Find.{IsFirstByte, is_byte}
 use Rattle.vfs_model.specs.Script.{onto_first, raw_lines}
@@ -14,7 +14,7 @@ further byte at bytes other is = rw (other, is) refl
 -- the first line ends behind the first line feed
 pub line_at_feed : (bytes : List ℕ) (at : ℕ) → at < length bytes → ((k : ℕ) → k < at → (get_or bytes k 0 == 10) ≡ false) → (get_or bytes at 0 == 10) ≡ true → Splits bytes (suc at)
 line_at_feed [] at within before feed = absurd (omega arith)
-line_at_feed (byte ∷ bytes) 0 within before feed = rw feed refl
+line_at_feed (byte ∷ bytes) zero within before feed = rw feed refl
 line_at_feed (byte ∷ bytes) (suc at) within before feed =
     further byte (suc at) bytes (before 0 (omega arith)) (line_at_feed bytes at (omega arith) (λ k h. before (suc k) (omega (arith, h))) feed)
 

@@ -1,5 +1,5 @@
 -- How a script goes on with a line that was read.
-use Rattle.std.specs.Prelude.{◌≡◌, ℕ, None, Some, Option, List, Result}
+use Rattle.std.specs.Prelude.{◌≡◌, ℕ, Bool, true, None, Some, Option, List, Result, if◌then◌else◌}
 use Rattle.std.specs.BTreeMap.{is_at}
 use Rattle.std.specs.Cmp.Lexicographic.{slice_cmp}
 use Rattle.std.specs.List.{list_any}
@@ -7,13 +7,22 @@ use Rattle.std.specs.Ordering.{nat_cmp}
 use Rattle.vfs_base.specs.declared.deck.Deck.{Deck}
 use Rattle.vfs_model.specs.Deck.{DeckDraft, has_rom, or_bad_line, with_deck_line}
 use Rattle.vfs_model.specs.DeckLine.{DeckLine, Opens, deck_line}
+use Rattle.vfs_model.specs.Namespace.{same_bytes}
 use Rattle.deck_form.specs.declared.deck.DeckFault.{DeckFault}
 use Rattle.deck_form.specs.Lines.{LinesState, deck_with}
 use Rattle.deck_form.specs.Reading.{StopsReadingDeck}
 
--- the names are those of the roms, each once
+-- the name is one of these, which stand in byte order
+abbrev pub has_name : List (List ℕ) → List ℕ → Bool
+has_name names name = list_any (is_at (slice_cmp nat_cmp name)) names
+
+-- the name was added to them
+abbrev pub AddsName : List (List ℕ) → List (List ℕ) → List ℕ → Type 0
+AddsName old new name = (other : List ℕ) → has_name new other ≡ (if same_bytes name other then true else has_name old other)
+
+-- the names are those of the roms
 abbrev pub KnowsRoms : List (List ℕ) → Deck → Type 0
-KnowsRoms names deck = (name : List ℕ) → list_any (is_at (slice_cmp nat_cmp name)) names ≡ has_rom deck name
+KnowsRoms names deck = (name : List ℕ) → has_name names name ≡ has_rom deck name
 
 -- what the script means with a line of this meaning, which was read last, and those that are left
 abbrev pub deck_after : Deck → Option DeckLine → LinesState → Result Deck ℕ

@@ -12,7 +12,7 @@ meaning_of (Asks act) = asks act
 meaning_of (Opens name) = opens name
 
 -- the event that the text is was pushed, or the text is none; an empty text leaves the list as it was
-abbrev pub IsPushed : List ℕ → Bool → List Who → List Who → Type 0
-IsPushed [] pushed old new = (pushed ≡ true) × (new ≡ old)
-IsPushed (byte ∷ bytes) true old new = (asker : Who) × (event_of (byte ∷ bytes) ≡ Some asker) × (new ≡ old ++ asker ∷ [])
-IsPushed (byte ∷ bytes) false old new = event_of (byte ∷ bytes) ≡ None
+abbrev pub IsEventPushed : List ℕ → Bool → List Who → List Who → Type 0
+IsEventPushed [] pushed old new = (pushed ≡ true) × (new ≡ old)
+IsEventPushed (byte ∷ bytes) true old new = (asker : Who) × (event_of (byte ∷ bytes) ≡ Some asker) × (new ≡ old ++ asker ∷ [])
+IsEventPushed (byte ∷ bytes) false old new = event_of (byte ∷ bytes) ≡ None

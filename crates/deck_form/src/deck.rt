@@ -1,12 +1,8 @@
 //! Scripts, read from bytes.
 
-ghost use Rattle.std.specs.Prelude.{◌≡◌, Ok, IfOk, IfErr, OnOk, not};
-ghost use Rattle.std.specs.BTreeMap.{is_at};
-ghost use Rattle.std.specs.BTreeSet.{insert_key};
-ghost use Rattle.std.specs.Cmp.Lexicographic.{slice_cmp};
-ghost use Rattle.std.specs.List.{list_any};
-ghost use Rattle.std.specs.Ordering.{nat_cmp};
+ghost use Rattle.std.specs.Prelude.{◌≡◌, ◌≤◌, length, Ok, IfOk, IfErr, OnOk, not};
 ghost use Rattle.vfs_model.specs.Deck.{deck_of};
+ghost use Rattle.deck_form.specs.Draft.{AddsName, has_name};
 ghost use Rattle.deck_form.specs.Reading.{StopsReadingDeck};
 
 use crate::line::{DeckLine, deck_line};
@@ -89,6 +85,7 @@ impl DeckDraft {
     ) -> Result<(), DeckFault>
         requires { KnowsRoms self.old.names.keys self.old.deck }
         ensures ok { OnOk result (TakesLine self.old.deck self.new.deck text.now lines.old lines.new) }
+        ensures shorter { length lines.new.rest ≤ length lines.old.rest }
         ensures known { OnOk result (KnowsRoms self.new.names.keys self.new.deck) }
         ensures fault { IfErr result (StopsInLine self.old.deck text.now lines.old) }
     {
@@ -114,6 +111,7 @@ impl DeckDraft {
     ) -> Result<(), DeckFault>
         requires { KnowsRoms self.old.names.keys self.old.deck }
         ensures ok { OnOk result (TakesRom self.old.deck self.new.deck name lines.old lines.new) }
+        ensures shorter { length lines.new.rest ≤ length lines.old.rest }
         ensures known { OnOk result (KnowsRoms self.new.names.keys self.new.deck) }
         ensures fault { IfErr result (StopsInNewRom self.old.deck name lines.old) }
     {
@@ -131,9 +129,8 @@ impl DeckDraft {
 // Puts a copy of the name at its place, and answers whether it is new.
 fn insert_name(names: &mut BTreeSet<Name>, name: &Name) -> Result<bool, NoMemory>
     ensures added { IfOk result (λ added. added
-        ≡ not (list_any (is_at (slice_cmp nat_cmp name.now)) names.old.keys)) }
-    ensures keys { OnOk result (names.new.keys
-        ≡ insert_key (slice_cmp nat_cmp) names.old.keys name.now) }
+        ≡ not (has_name names.old.keys name.now)) }
+    ensures names { OnOk result (AddsName names.old.keys names.new.keys name.now) }
 {
     Ok(names.insert(name.copy()?)?)
 }

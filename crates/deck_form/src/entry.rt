@@ -1,13 +1,15 @@
 //! Who takes a step and how it comes out, as scripts and schedules write them.
 
-ghost use Rattle.std.specs.Prelude.{◌≡◌, ◌≤◌, length};
+ghost use Rattle.std.specs.Prelude.{◌≡◌, ◌≤◌, length, IfOk};
 ghost use Rattle.std.specs.List.{list_all, position, position_or_len};
 ghost use Rattle.vfs_base.specs.declared.limits.TheConstants.{ROWS, SESSIONS};
 ghost use Rattle.vfs_model.specs.DeckLine.{event_of};
 ghost use Rattle.vfs_model.specs.Numeral.{is_digit as is_digit_byte, is_numeral, number_within};
 ghost use Rattle.vfs_model.specs.Schedule.{begins_mark, entry_of, mark_of, most_moved, who_of};
+ghost use Rattle.deck_form.specs.Line.{IsEventPushed};
+ghost use Rattle.deck_form.specs.Reading.{IsEntryPushed};
 
-use vfs_base::{Entry, Mark, RowId, SessionId, Who};
+use vfs_base::{Entry, List, Mark, NoMemory, RowId, SessionId, Who};
 
 fn are_digits(text: &[u8]) -> bool
     ensures { result ≡ list_all is_digit_byte text.now }
@@ -68,8 +70,8 @@ fn read_who(text: &[u8]) -> Option<Who>
     }
 }
 
-/// Who an event of a script is a step of: `k`, `fR` or `rR`.
-pub(crate) fn read_event(text: &[u8]) -> Option<Who>
+// Who an event of a script is a step of: `k`, `fR` or `rR`.
+fn read_event(text: &[u8]) -> Option<Who>
     ensures { result ≡ event_of text.now }
 {
     match read_who(text) {
@@ -108,8 +110,8 @@ fn mark_place(text: &[u8]) -> usize
     first_mark(text).unwrap_or(text.len())
 }
 
-/// The entry of a schedule that the text is.
-pub(crate) fn read_entry(text: &[u8]) -> Option<Entry>
+// The entry of a schedule that the text is.
+fn read_entry(text: &[u8]) -> Option<Entry>
     ensures { result ≡ entry_of text.now }
 {
     let (who, mark) = text.split_at(mark_place(text));
@@ -117,4 +119,29 @@ pub(crate) fn read_entry(text: &[u8]) -> Option<Entry>
         who: read_who(who)?,
         mark: read_mark(mark)?,
     })
+}
+
+/// Appends the event that the text is, or nothing of an empty text. Answers `false` where it is none.
+pub(crate) fn push_event(list: &mut List<Who>, text: &[u8]) -> Result<bool, NoMemory>
+    ensures { IfOk result (λ pushed. IsEventPushed text.now pushed list.old list.new) }
+{
+    if text.is_empty() {
+        return Ok(true);
+    }
+    let Some(asker) = read_event(text) else {
+        return Ok(false);
+    };
+    list.push(asker)?;
+    Ok(true)
+}
+
+/// Appends the entry that the text is. Answers `false` where it is none.
+pub(crate) fn push_entry(entries: &mut List<Entry>, text: &[u8]) -> Result<bool, NoMemory>
+    ensures { IfOk result (λ pushed. IsEntryPushed text.now pushed entries.old entries.new) }
+{
+    let Some(Entry { who, mark }) = read_entry(text) else {
+        return Ok(false);
+    };
+    entries.push(Entry { who, mark })?;
+    Ok(true)
 }

@@ -5,9 +5,9 @@ ghost use Rattle.std.specs.List.{list_all, list_any, slice_split};
 ghost use Rattle.vfs_base.specs.declared.deck.Act.TheVariants as act;
 ghost use Rattle.vfs_model.specs.DeckLine.{deck_line, event_line, events_of, has_bytes, post_of, rom_of, session_digit};
 ghost use Rattle.vfs_model.specs.Manifest.{is_space};
-ghost use Rattle.deck_form.specs.Line.{meaning_of, IsPushed};
+ghost use Rattle.deck_form.specs.Line.{meaning_of};
 
-use crate::entry::read_event;
+use crate::entry::push_event;
 use std::alloc::Global;
 use vfs_base::{Act, List, Name, NoMemory, SessionId, Who, copy_bytes};
 
@@ -110,20 +110,6 @@ fn read_events(alloc: Global, events: &[u8]) -> Result<Option<List<Who>>, NoMemo
         }
     }
     Ok(Some(list))
-}
-
-// Appends the event that the text is, or nothing of an empty text. Answers `false` where it is none.
-fn push_event(list: &mut List<Who>, text: &[u8]) -> Result<bool, NoMemory>
-    ensures { IfOk result (λ pushed. IsPushed text.now pushed list.old list.new) }
-{
-    if text.is_empty() {
-        return Ok(true);
-    }
-    let Some(asker) = read_event(text) else {
-        return Ok(false);
-    };
-    list.push(asker)?;
-    Ok(true)
 }
 
 // A rom is opened by its name, which has no space.

@@ -71,6 +71,7 @@ impl<'a> Lines<'a> {
         ensures end { IfOk result (λ line. IfNone line
             ((self.old.rest ≡ []) × (self.new ≡ self.old))) }
         ensures fault { IfErr result (StopsAtLine self.old) }
+        ensures err { OnErr result (self.new ≡ self.old) }
     {
         if self.rest.is_empty() {
             return Ok(None);

@@ -1,6 +1,6 @@
 //! The roms of a script: the lines up to `end`, which are a manifest.
 
-ghost use Rattle.std.specs.Prelude.{◌≡◌, IfOk, IfErr};
+ghost use Rattle.std.specs.Prelude.{◌≡◌, ◌≤◌, length, IfOk, IfErr};
 ghost use Rattle.deck_form.specs.Rom.{EndsRom, StopsInRom};
 
 use crate::deck::DeckFault;
@@ -20,6 +20,8 @@ pub(crate) fn read_rom(
     lines: &mut Lines<'_>,
 ) -> Result<RomText, DeckFault>
     ensures rom { IfOk result (EndsRom lines.old lines.new name) }
+    ensures name { IfOk result (λ rom. rom.name ≡ name) }
+    ensures shorter { length lines.new.rest ≤ length lines.old.rest }
     ensures fault { IfErr result (StopsInRom lines.old name) }
 {
     let text = lines.rest();

@@ -4,9 +4,9 @@ ghost use Rattle.std.specs.Prelude.{◌≡◌, Ok, IfOk, IfErr};
 ghost use Rattle.std.specs.List.{slice_split};
 ghost use Rattle.vfs_model.specs.Manifest.{is_space};
 ghost use Rattle.vfs_model.specs.Schedule.{entries_from, schedule_entries, schedule_line};
-ghost use Rattle.deck_form.specs.Reading.{IsEntryPushed, StopsReadingSchedule};
+ghost use Rattle.deck_form.specs.Reading.{StopsReadingSchedule};
 
-use crate::entry::read_entry;
+use crate::entry::push_entry;
 use std::alloc::Global;
 use thiserror::Error;
 use vfs_base::{Bytes, Entry, List, NoMemory};
@@ -82,15 +82,4 @@ fn read_entries(alloc: Global, texts: &[u8]) -> Result<List<Entry>, ScheduleFaul
         }
     }
     Ok(entries)
-}
-
-// Appends the entry that the text is. Answers `false` where it is none.
-fn push_entry(entries: &mut List<Entry>, text: &[u8]) -> Result<bool, NoMemory>
-    ensures { IfOk result (λ pushed. IsEntryPushed text.now pushed entries.old entries.new) }
-{
-    let Some(entry) = read_entry(text) else {
-        return Ok(false);
-    };
-    entries.push(entry)?;
-    Ok(true)
 }

@@ -5,4 +5,4 @@ pub returns-in-Some-clause-line : goal.returns-in-Some-clause-line
 returns-in-Some-clause-line c = line_found c.args.bytes.now c.memchr.result c.in-Some.at c.in-Some.is c.memchr.ensures
 
 pub returns-in-None-clause-line : goal.returns-in-None-clause-line
-returns-in-None-clause-line c = rw c.len.ensures (line_alone c.args.bytes.now c.memchr.result c.in-None.is c.memchr.ensures c.requires)
+returns-in-None-clause-line c = line_alone c.args.bytes.now c.memchr.result c.in-None.is c.memchr.ensures c.requires
