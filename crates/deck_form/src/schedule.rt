@@ -1,9 +1,10 @@
 //! Schedules: the line that is printed of one, and the reading of such a line.
 
-ghost use Rattle.std.specs.Prelude.{◌≡◌, Ok, IfOk, IfErr};
+ghost use Rattle.std.specs.Prelude.{◌≡◌, Ok, IfOk, IfErr, if◌then◌else◌};
 ghost use Rattle.std.specs.List.{slice_split};
 ghost use Rattle.vfs_model.specs.Manifest.{is_space};
 ghost use Rattle.vfs_model.specs.Schedule.{entries_from, schedule_entries, schedule_line};
+ghost use Rattle.vfs_model.specs.Script.{but_last, is_ended};
 ghost use Rattle.deck_form.specs.Reading.{StopsReadingSchedule};
 
 use crate::entry::push_entry;
@@ -51,18 +52,24 @@ pub fn print_schedule(alloc: Global, entries: &[Entry]) -> Result<Bytes, NoMemor
 ///
 /// # Errors
 /// `BadEntry` where the line is no schedule, with the first entry at fault, and `NoMemory`.
+#[tactic(auto, unfolding(vfs_model::specs::Schedule::schedule_entries))]
 pub fn read_schedule(alloc: Global, line: &[u8]) -> Result<List<Entry>, ScheduleFault>
     ensures entries { IfOk result (λ entries. schedule_entries line.now ≡ Ok entries) }
     ensures fault { IfErr result (StopsReadingSchedule (schedule_entries line.now)) }
 {
-    let text = match line {
-        [text @ .., b'\n'] => text,
-        _ => line,
-    };
-    match text {
+    match without_feed(line) {
         [b'#'] => Ok(List::new(alloc)),
         [b'#', b' ', texts @ ..] => read_entries(alloc, texts),
         _ => Err(ScheduleFault::BadEntry { at: 0 }),
+    }
+}
+
+fn without_feed(line: &[u8]) -> &[u8]
+    ensures { result.now ≡ if is_ended line.now then but_last line.now else line.now }
+{
+    match line {
+        [text @ .., b'\n'] => text,
+        _ => line,
     }
 }
 
