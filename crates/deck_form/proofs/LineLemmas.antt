@@ -1,8 +1,8 @@
 -- Lemmas on the lines of a script.
-use Rattle.std.proofs.Common.{◌≡◌, ℕ, zero, suc, ◌+◌, ◌-◌, ◌<◌, ◌≤◌, ◌==◌, Bool, true, false, not, cond, Option, Some, None, List, [], ◌∷◌, ◌++◌, length, take, drop, get_or, refl, arith, add-one}
+use Rattle.std.proofs.Common.{◌≡◌, ℕ, zero, suc, ◌+◌, ◌<◌, ◌==◌, true, false, Option, Some, None, List, [], ◌∷◌, length, take, drop, get_or, refl, arith, add-one}
 use Rattle.std.proofs.lemmas.Bool.{false_from_ne_true}
 use Rattle.memchr.specs.Find.{IsFirstByte, is_byte}
-use Rattle.vfs_model.specs.Script.{onto_first, raw_lines}
+use Rattle.vfs_model.specs.Script.{raw_lines}
 
 -- the first line of bytes ends at that place
 abbrev Splits : List ℕ → ℕ → Type 0

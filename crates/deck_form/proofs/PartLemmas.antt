@@ -1,9 +1,9 @@
 -- Lemmas on the events and entries that spaces separate.
-use Rattle.std.proofs.Common.{◌≡◌, ℕ, ◌+◌, Bool, true, false, filter, Option, Some, None, option_map, Result, Ok, Err, List, [], ◌∷◌, ◌++◌, length, refl, sym, ap, ◌∙◌, arith, append_assoc, append-nil, length-append, drop, get_or, add-one, suc, ◌<◌, drop-cons}
+use Rattle.std.proofs.Common.{◌≡◌, ℕ, ◌+◌, true, false, filter, Option, Some, None, option_map, Result, Ok, Err, List, [], ◌∷◌, ◌++◌, length, refl, sym, ap, ◌∙◌, append_assoc, append-nil, length-append, drop, get_or, add-one, suc, ◌<◌, drop-cons}
 use Rattle.vfs_base.specs.declared.entry.Entry.{Entry}
 use Rattle.vfs_base.specs.declared.entry.Who.{Who}
-use Rattle.vfs_model.specs.DeckLine.{event_before, event_of, events_of, has_bytes}
-use Rattle.vfs_model.specs.Schedule.{entries_from, entry_before, entry_of}
+use Rattle.vfs_model.specs.DeckLine.{event_before, events_of, has_bytes}
+use Rattle.vfs_model.specs.Schedule.{entries_from, entry_before}
 use Rattle.deck_form.specs.Line.{IsEventPushed}
 use Rattle.deck_form.specs.Reading.{IsEntryPushed}
 

@@ -1,12 +1,12 @@
 -- Lemmas on the lines that are left of a script.
-use Rattle.std.proofs.Common.{◌≡◌, ℕ, ◌+◌, ◌<◌, ◌≤◌, true, false, Option, Some, None, Result, Ok, Err, List, [], ◌∷◌, ◌++◌, length, take, drop, refl, sym, ap, ◌∙◌, arith, subst, codes, length-append, take_at, drop_at, drop-drop}
+use Rattle.std.proofs.Common.{◌≡◌, ℕ, ◌+◌, true, false, Some, None, Ok, Err, List, [], ◌∷◌, ◌++◌, length, take, drop, refl, sym, ap, ◌∙◌, codes, take_at, drop_at, drop-drop}
 use Rattle.std.proofs.Math.Seq.{take-add}
 use Rattle.vfs_base.specs.declared.deck.Deck.{Deck}
-use Rattle.vfs_model.specs.Deck.{DeckDraft, OpenRom, deck_from, or_bad_line, with_raw_line, with_rom}
+use Rattle.vfs_model.specs.Deck.{DeckDraft, or_bad_line, with_raw_line}
 use Rattle.vfs_model.specs.DeckLine.{deck_line}
 use Rattle.vfs_model.specs.Manifest.{Draft, with_line}
 use Rattle.vfs_model.specs.Namespace.{same_bytes}
-use Rattle.vfs_model.specs.Script.{is_bad_line, line_text, raw_lines}
+use Rattle.vfs_model.specs.Script.{line_text}
 use Rattle.deck_form.specs.declared.deck.DeckFault.{DeckFault}
 use Rattle.deck_form.specs.declared.deck.DeckFault.TheVariants.{Line, NoMemory}
 use Rattle.deck_form.specs.Draft.{deck_after, deck_outside}

@@ -1,7 +1,6 @@
 -- Lemmas on the lines of a generator.
-use Rattle.std.proofs.Common.{◌≡◌, ℕ, suc, ◌+◌, ◌-◌, ◌%◌, ◌<◌, ◌∷◌, ◌++◌, List, refl, sym, ap, ◌∙◌, arith}
-use Rattle.vfs_base.specs.declared.deck.Act.{Act}
-use Rattle.vfs_model.specs.Soak.{SoakLine, chosen_line, draw, drawn, soak_line, soak_lines}
+use Rattle.std.proofs.Common.{◌≡◌, ℕ, suc, ◌+◌, ◌-◌, ◌%◌, ◌<◌, ◌∷◌, refl, arith}
+use Rattle.vfs_model.specs.Soak.{chosen_line, draw, drawn, soak_line, soak_lines}
 
 -- three draws choose a line
 pub line_drawn : (state first second third one two three number k : ℕ) →

@@ -5,7 +5,7 @@ use Rattle.std.specs.Cmp.Lexicographic.{slice_cmp}
 use Rattle.std.specs.List.{list_any}
 use Rattle.std.specs.Ordering.{nat_cmp}
 use Rattle.vfs_base.specs.declared.deck.Deck.{Deck}
-use Rattle.vfs_model.specs.Deck.{DeckDraft, has_rom, or_bad_line, with_deck_line}
+use Rattle.vfs_model.specs.Deck.{has_rom, or_bad_line, with_deck_line}
 use Rattle.vfs_model.specs.DeckLine.{DeckLine, Opens, deck_line}
 use Rattle.vfs_model.specs.Namespace.{same_bytes}
 use Rattle.deck_form.specs.declared.deck.DeckFault.{DeckFault}

@@ -1,5 +1,4 @@
-use Rattle.std.proofs.Common.{◌≡◌, true, Some, None, sym, ◌∙◌, rules}
-use Rattle.std.specs.Result.{result_ok}
+use Rattle.std.proofs.Common.{◌≡◌, true, sym, ◌∙◌, rules}
 use Rattle.std.specs.Str.{IsUtf8}
 use Rattle.vfs_model.specs.Numeral.{is_numeral}
 use Rattle.deck_form.proofs.NumberLemmas.{number_parsed, numeral_utf8, no_error, value_there}

@@ -1,4 +1,4 @@
-use Rattle.std.proofs.Common.{◌≡◌, ◌∷◌, ◌++◌, drop}
+use Rattle.std.proofs.Common.{◌≡◌, ◌++◌, drop}
 use Rattle.std.specs.List.{flat_map}
 use Rattle.vfs_model.specs.Schedule.{entry_word, schedule_text}
 use Rattle.deck_form.proofs.schedule.print_schedule.Given as goal

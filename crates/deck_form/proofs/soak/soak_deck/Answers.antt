@@ -1,4 +1,4 @@
-use Rattle.std.proofs.Common.{◌≡◌, ◌+◌, ◌-◌, [], ◌∷◌, ◌++◌, sym, ap, ◌∙◌, append_assoc}
+use Rattle.std.proofs.Common.{◌+◌, ◌-◌, [], ◌∷◌, ◌++◌, sym, ap, ◌∙◌, append_assoc}
 use Rattle.vfs_model.specs.Soak.{SoakLine, soak_lines}
 use Rattle.deck_form.proofs.SoakLemmas.{lines_step}
 use Rattle.deck_form.proofs.soak.soak_deck.Goals as goal

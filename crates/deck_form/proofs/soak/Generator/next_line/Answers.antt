@@ -1,4 +1,4 @@
-use Rattle.std.proofs.Common.{◌≡◌, ◌+◌, ◌%◌, sym, ◌∙◌, subst, IfOk}
+use Rattle.std.proofs.Common.{◌≡◌, sym, ◌∙◌, subst, IfOk}
 use Rattle.std.proofs.lemmas.Option.{cond_some}
 use Rattle.vfs_model.specs.Soak.{SoakLine}
 use Rattle.deck_form.proofs.SoakLemmas.{line_drawn}
