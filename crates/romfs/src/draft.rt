@@ -13,11 +13,11 @@ use std::marker::Model;
 use vfs_base::{Bytes, List, NODES, NoMemory, Path};
 
 /// What stands at the paths: a file has its bytes, and a folder none.
-pub(crate) type Items = BTreeMap<Path, Option<Bytes>>;
+type Items = BTreeMap<Path, Option<Bytes>>;
 
-/// What the lines so far mean.
+/// A rom whose manifest is read line by line: what the lines so far mean.
 #[derive(Drop)]
-pub(crate) struct Draft {
+pub struct Draft {
     items: Items,
     // The file of the line before, with which a `+` line goes on.
     last_file: Option<Path>,
@@ -34,7 +34,8 @@ impl Model for Draft {
 impl Draft {
     ghost use Rattle.vfs_model.specs.Manifest.{with_line, with_folder, with_file, with_bytes};
 
-    pub(crate) fn new(alloc: Global) -> Draft
+    /// The rom before the first line, which takes no memory yet.
+    pub fn new(alloc: Global) -> Draft
         ensures { result ≡ record { items = []; last_file = None } }
     {
         Draft {
@@ -43,8 +44,10 @@ impl Draft {
         }
     }
 
-    /// Takes the next line, or answers `false` where it is outside the form.
-    pub(crate) fn take_line(&mut self, alloc: Global, line: &[u8]) -> Result<bool, NoMemory>
+    /// Takes the text of the next line, or answers `false` where it is outside the form of a manifest.
+    ///
+    /// After `false` and after an `Err` what the draft means is left open.
+    pub fn take_line(&mut self, alloc: Global, line: &[u8]) -> Result<bool, NoMemory>
         ensures { IfOk result (λ taken. with_line self.old line.now
             ≡ if taken then Some self.new else None) }
     {

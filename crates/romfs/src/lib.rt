@@ -10,6 +10,7 @@ mod field;
 mod manifest;
 mod rom_tree;
 
+pub use draft::Draft;
 pub use manifest::{ManifestFault, read_manifest, write_manifest};
 pub use rom_tree::{RomNode, RomTree};
 

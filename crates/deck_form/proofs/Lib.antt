@@ -1,0 +1,6 @@
+pub mod DraftLemmas
+pub mod LineLemmas
+pub mod NumberLemmas
+pub mod PartLemmas
+pub mod RomLemmas
+pub mod SoakLemmas

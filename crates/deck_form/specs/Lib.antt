@@ -1,0 +1,5 @@
+pub mod Draft
+pub mod Line
+pub mod Lines
+pub mod Reading
+pub mod Rom
