@@ -3,6 +3,7 @@
 ghost use Rattle.std.specs.Prelude.{◌≡◌, Ok, Err, IfOk, OnOk, IfErr, OnErr, option_map, slice_get};
 ghost use Rattle.std.specs.List.{filter_map};
 ghost use Rattle.vfs_base.specs.declared.step.Step.TheVariants.{Close};
+ghost use Rattle.vfs_model.specs.DescriptorLaws.{IsSound};
 ghost use Rattle.vfs_model.specs.OpenFiles.{add_file, close_file, dup_file, has_all_descriptors, is_last, open_file, opening_files, seek, set_place};
 ghost use Rattle.vfs_model.specs.Session.{close_step, files_to_close};
 ghost use Rattle.fd_table.specs.FdFault.{errno_of};
@@ -191,7 +192,8 @@ impl FdTable {
     ///
     /// A session that leaves gives up its open files in this order.
     pub fn nth_to_close(&self, place: usize) -> Option<HoldId>
-        ensures { option_map (λ hold. Close hold) result
+        ensures sound { IsSound self.now }
+        ensures closes { option_map (λ hold. Close hold) result
             ≡ slice_get (filter_map (close_step self.now) (files_to_close self.now.descriptors)) place }
     {
         nth_hold(&self.descriptors, &self.files, place)

@@ -1,9 +1,9 @@
 //! The mappings of one shell.
 
-ghost use Rattle.std.specs.Prelude.{◌≡◌, ◌+◌, ◌≤◌, Ok, Err, IfOk, OnOk, IfErr, OnErr, IfSome, option_map, slice_get, is_none};
+ghost use Rattle.std.specs.Prelude.{◌≡◌, ◌+◌, ◌≤◌, Ok, Err, IfOk, OnOk, IfErr, OnErr, IfSome, length, option_map, slice_get, is_none};
 ghost use Rattle.std.specs.List.{filter_map, list_any, position, position_or_len};
 ghost use Rattle.std.specs.Option.{option_copied};
-ghost use Rattle.vfs_base.specs.declared.limits.TheConstants.{OFF_MAX};
+ghost use Rattle.vfs_base.specs.declared.limits.TheConstants.{OFF_MAX, WINDOWS};
 ghost use Rattle.vfs_base.specs.declared.step.Step.TheVariants.{Unmap};
 ghost use Rattle.vfs_model.specs.Mappings.{add_mapping, check_mapping, has_all_mappings, mapping_at, opening_mappings, remove_mapping};
 ghost use Rattle.vfs_model.specs.Session.{unmap_step};
@@ -126,6 +126,7 @@ impl Windows {
     /// The mapping at this place, from 0, among those that are there, by their numbers; `None` from
     /// their count on.
     pub fn nth(&self, place: usize) -> Option<&Window>
+        ensures count { length self.now ≡ WINDOWS }
         ensures mapping { option_copied result ≡ slice_get (filter_map (λ window. window) self.now) place }
         ensures unmaps { option_map (λ window. Unmap window.now.hold) result
             ≡ slice_get (filter_map unmap_step self.now) place }
