@@ -142,7 +142,7 @@ impl Dialogue {
         let Next::Ask { step } = command.next(self.alloc)? else {
             return Err("no step")?;
         };
-        if !fits_reply(&step, reply) {
+        if !fits_reply(reply) {
             return Err("a reply that does not fit")?;
         }
         Ok(command.feed(self.alloc, reply, &mut self.desk)?)

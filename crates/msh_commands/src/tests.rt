@@ -522,11 +522,20 @@ fn descriptors_come_and_go(rt: HostRuntime) -> Result<(), Fail> {
         fd 3
         msh />open /f w,creat,trunc
         ? open /f wct = opened 2 2 tmp
+        own close 2
         ? trunc 2 0 = EIO
+        own close 2
+        ? close 2 = done
         open: /f: EIO
+        msh />open /g w,creat,trunc
+        ? open /g wct = opened 2 2 tmp
+        ? trunc 2 0 = ENOMEM
+        ? close 2 = EIO
+        open: /g: ENOMEM
+        open: /g: EIO
         msh />open /u rw,trunc
         ? open /u rwt = opened 3 4 chr
-        fd 5
+        fd 4
         msh />open /none r
         ? open /none r = ENOENT
         open: /none: ENOENT
@@ -537,8 +546,8 @@ fn descriptors_come_and_go(rt: HostRuntime) -> Result<(), Fail> {
         msh />open /f
         usage: open PATH FLAGS
         msh />dup 03
-        fd 6
-        msh />lseek 6 7 set
+        fd 5
+        msh />lseek 5 7 set
         7
         msh />lseek 3 0 cur
         7
@@ -549,19 +558,20 @@ fn descriptors_come_and_go(rt: HostRuntime) -> Result<(), Fail> {
         msh />close 3
         msh />close 3
         close: 3: EBADF
-        msh />close 6
+        msh />close 5
+        own close 1
         ? close 1 = EIO
-        close: 6: EIO
-        msh />lseek 6 0 cur
-        7
-        msh />close 6
-        ? close 1 = done
-        msh />close 06
-        close: 06: EBADF
+        close: 5: EIO
+        msh />lseek 5 0 cur
+        lseek: 5: EBADF
+        msh />close 05
+        close: 05: EBADF
         msh />close
         usage: close FD
         msh />dup 4
         fd 3
+        msh />dup 4
+        fd 5
         msh />dup 4
         fd 6
         msh />dup 4
@@ -683,10 +693,9 @@ fn mappings_come_and_go(rt: HostRuntime) -> Result<(), Fail> {
         msh />msync
         usage: msync W
         msh />munmap 1
+        own unmap 5
         ? unmap 5 = EIO
         munmap: 1: EIO
-        msh />munmap 1
-        ? unmap 5 = done
         msh />munmap 1
         munmap: 1: EINVAL
         msh />munmap x

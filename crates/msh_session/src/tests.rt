@@ -96,41 +96,26 @@ fn shows_behind(
     Ok(())
 }
 
-// The next exit step closes the open file of this reference.
-fn closes(rt: &impl Abort, session: &mut Session, number: u8)
-    requires { is_pending (session_rest session.old [] []) ≡ false }
-    ensures { is_pending (session_rest session.new [] []) ≡ false }
-{
-    match session.exit_step() {
-        Some(Step::Close { hold }) => {
-            assert_eq!(rt; hold.number, number);
-            session.exited();
-        }
-        _ => panic!(rt; "it closes a file"),
+// What an exit step is, and the number of the reference that it gives up.
+fn shown_exit(step: &Step) -> (&'static str, u8) {
+    match step {
+        Step::Close { hold } => ("Close", hold.number),
+        Step::Unmap { hold } => ("Unmap", hold.number),
+        Step::Home => ("Home", 0),
+        _ => ("no exit step", 0),
     }
 }
 
-fn unmaps(rt: &impl Abort, session: &mut Session, number: u8)
+// The session makes this exit step.
+fn exits(rt: &impl Abort, session: &mut Session, name: &str, number: u8)
     requires { is_pending (session_rest session.old [] []) ≡ false }
     ensures { is_pending (session_rest session.new [] []) ≡ false }
 {
-    match session.exit_step() {
-        Some(Step::Unmap { hold }) => {
-            assert_eq!(rt; hold.number, number);
-            session.exited();
-        }
-        _ => panic!(rt; "it gives up a mapping"),
-    }
-}
-
-fn goes_home(rt: &impl Abort, session: &mut Session)
-    requires { is_pending (session_rest session.old [] []) ≡ false }
-    ensures { is_pending (session_rest session.new [] []) ≡ false }
-{
-    match session.exit_step() {
-        Some(Step::Home) => session.exited(),
-        _ => panic!(rt; "it goes home"),
-    }
+    let Some(step) = session.exit_step() else {
+        panic!(rt; "a step is left");
+    };
+    assert_eq!(rt; shown_exit(&step), (name, number));
+    session.exited();
 }
 
 #[test]
@@ -163,9 +148,9 @@ fn a_session_shows_blocks_and_leaves(rt: HostRuntime) -> Result<(), Fail> {
     let folder = in_folder(&rt, alloc)?;
     shows_behind(&rt, alloc, s, b"cd a", &folder, b"msh />cd a\n")?;
     shows(&rt, alloc, s, b"echo hi", b"msh /a>echo hi\nhi\n")?;
-    unmaps(&rt, s, 2);
-    closes(&rt, s, 1);
-    goes_home(&rt, s);
+    exits(&rt, s, "Unmap", 2);
+    exits(&rt, s, "Close", 1);
+    exits(&rt, s, "Home", 0);
     assert!(rt; s.exit_step().is_none());
     Ok(())
 }
@@ -184,7 +169,7 @@ fn a_given_up_command_closes_its_file(rt: HostRuntime) -> Result<(), Fail> {
     };
     session.abandon();
     assert!(rt; session.want(alloc)?.is_none());
-    closes(&rt, &mut session, 7);
+    exits(&rt, &mut session, "Close", 7);
     assert!(rt; session.exit_step().is_none());
     Ok(())
 }
