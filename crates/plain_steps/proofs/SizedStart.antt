@@ -13,7 +13,7 @@ use Rattle.vfs_model.specs.declared.namespace.Reference.{Reference}
 use Rattle.vfs_model.specs.declared.namespace.RomImage.{RomImage}
 use Rattle.vfs_model.specs.declared.namespace.VolumeState.{VolumeState}
 use Rattle.plain_steps.specs.Opening.{HasFewCells, HasFewCellsEach, IsSmallRom}
-use Rattle.plain_steps.specs.Sizes.{IsSized}
+use Rattle.plain_nodes.specs.Sizes.{IsSized}
 
 empty_at : (n j : ℕ) → slice_index_or {A = Tree} (replicate n []) j [] ≡ []
 empty_at zero j = refl

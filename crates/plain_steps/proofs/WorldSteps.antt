@@ -16,7 +16,7 @@ use Rattle.vfs_model.specs.World.{WorldOutcome, namespace_part, step_row}
 use Rattle.vfs_model.specs.declared.namespace.Namespace.{Namespace}
 use Rattle.vfs_model.specs.declared.world.World.{World}
 use Rattle.vfs_base.specs.declared.entry.Mark.{Mark}
-use Rattle.plain_steps.specs.WorldAnswer.{leaving, with_rows, world_answer}
+use Rattle.plain_nodes.specs.WorldAnswer.{leaving, with_rows, world_answer}
 
 -- but for Shutdown, the mark is looked at behind the answer
 marked : (n : Namespace) (k : ℕ) (asked : Step) (m : Mark) → is_shutdown asked ≡ false →

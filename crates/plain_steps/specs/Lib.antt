@@ -1,11 +1,1 @@
-pub mod Changes
-pub mod Gives
-pub mod Leaving
-pub mod Listing
-pub mod Mounting
 pub mod Opening
-pub mod Puts
-pub mod Rows
-pub mod Sizes
-pub mod Unmounting
-pub mod WorldAnswer

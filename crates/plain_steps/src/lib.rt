@@ -1,52 +1,27 @@
-//! The steps of the file system over flat lists: the slow program whose contracts are the definitions.
+//! The plain world: its start, each step of it under each mark, and the marks that a step may have.
 //!
-//! A contract sees the plain namespace and the plain world themselves, and says that each call
-//! answers and leaves what the definition of its step does. Nothing is indexed and nothing is
-//! cached. It knows no command, no script's lines and no threads.
+//! A contract sees the plain world, and says that a call answers and leaves what the definition of
+//! its step does. The steps themselves stand in `plain_files`, `plain_names`, `plain_mounts` and
+//! `plain_reports`, over the trees and slots of `plain_nodes`. It knows no command, no script's lines
+//! and no threads.
 #![tactic(auto)]
 
-mod applying;
-mod asking;
-mod binding;
-mod changes;
-mod content;
-mod counting;
-mod flat;
-mod formatting;
-mod holders;
-mod leaving;
-mod listing;
-mod lookup;
-mod mount_steps;
 #[cfg(test)]
 mod mount_tests;
-mod mounting;
-mod moving;
-mod naming;
-mod nodes;
-mod opening;
+#[cfg(test)]
+mod open_tests;
 mod plain_fault;
 #[cfg(test)]
 mod printing;
-mod references;
 mod roms;
-mod rows;
-mod session_steps;
-mod sources;
 mod start;
 #[cfg(test)]
 mod stepping;
-mod stop;
-mod tables;
 #[cfg(test)]
 mod tests;
-mod trees;
 #[cfg(test)]
 mod trial;
-mod unmounting;
 mod world;
 
-pub use changes::Change;
 pub use plain_fault::PlainFault;
-pub use stop::Stop;
 pub use world::PlainWorld;

@@ -1,10 +1,10 @@
 //! Steps of texts, for tests: `1 mkdir /a` is asked by session 1, `worker flush 1` by the worker and
-//! `end shutdown` at the end. The text `-` has no bytes.
+//! `end shutdown` at the end. The text `-` has no bytes, and each `N` of a text is 255 letters `n`.
 
 use bitflags::Flags;
 use std::alloc::Global;
 use std::test::Fail;
-use vfs_base::{Bytes, FileId, HoldId, Mark, OpenFlags, RowId, SessionId, Step, Who, copy_bytes};
+use vfs_base::{Bytes, FileId, HoldId, Mark, OpenFlags, RowId, SessionId, Step, Who};
 
 /// Who asks, and the mark: `1!2` is session 1 under a device's fault after 2 bytes, and `1m0` session
 /// 1 under want of memory.
@@ -144,10 +144,17 @@ fn hold_step(word: &str, hold: HoldId) -> Result<Step, Fail> {
 }
 
 fn bytes(alloc: Global, text: &str) -> Result<Bytes, Fail> {
+    let mut out = Bytes::new(alloc);
     if text == "-" {
-        return Ok(Bytes::new(alloc));
+        return Ok(out);
     }
-    Ok(copy_bytes(alloc, text.as_bytes())?)
+    for byte in text.as_bytes() {
+        match byte {
+            b'N' => out.extend_from_slice(&[b'n'; 255])?,
+            byte => out.push(*byte)?,
+        }
+    }
+    Ok(out)
 }
 
 fn row_of(text: &str) -> Result<RowId, Fail> {

@@ -10,20 +10,23 @@ use vfs_base::{
     Bytes, CharsShape, Deck, Describe, List, Name, PageCount, RomText, VolumeShape, copy_bytes,
 };
 
-fn name(alloc: Global, text: &str) -> Result<Name, Fail> {
+pub fn name(alloc: Global, text: &str) -> Result<Name, Fail> {
     let name = Name::from_bytes(copy_bytes(alloc, text.as_bytes())?);
     Ok(name.ok_or("no name")?)
+}
+
+pub fn rom_text(alloc: Global, rom: &str, manifest: &str) -> Result<RomText, Fail> {
+    let manifest = copy_bytes(alloc, manifest.as_bytes())?;
+    Ok(RomText {
+        name: name(alloc, rom)?,
+        manifest,
+    })
 }
 
 // A world with the rom `r`, the volume `v` of two cells, and the character device `uart`.
 pub fn opened(alloc: Global) -> Result<Trial, Fail> {
     let mut roms = List::new(alloc);
-    let manifest = copy_bytes(alloc, b"d /d\nf /d/g 43\nf /f 4142\n")?;
-    let name_of_rom = name(alloc, "r")?;
-    roms.push(RomText {
-        name: name_of_rom,
-        manifest,
-    })?;
+    roms.push(rom_text(alloc, "r", "d /d\nf /d/g 43\nf /f 4142\n")?)?;
     let deck = Deck {
         roms,
         acts: List::new(alloc),
@@ -322,6 +325,57 @@ fn nodes_run_out(rt: HostRuntime) -> Result<(), Fail> {
         1 open /f rwc = opened 2 file 1.1 tmp
         1 unlink /f = done
         1 mkdir /x = done
+    ",
+    )
+}
+
+// Each step that reads a path is refused with the error for PATH, before all that stands in the way
+// but a path that the step reads first.
+fn refuses_path(rt: &impl Abort, alloc: Global, path: &str, errno: &str) -> Result<(), Fail> {
+    let steps = "
+        1 stat PATH = ERRNO
+        1 mkdir PATH = ERRNO
+        1 rmdir PATH = ERRNO
+        1 unlink PATH = ERRNO
+        1 list PATH = ERRNO
+        1 chdir PATH = ERRNO
+        1 open PATH t = ERRNO
+        1 rename PATH - = ERRNO
+        1 rename - PATH = ENOENT
+        1 rename / PATH = ERRNO
+        1 mount q PATH zfs = ERRNO
+        1 umount PATH = ERRNO
+        1!0 umount PATH = unfit
+    ";
+    let steps = steps.replace(alloc, "PATH", path)?;
+    let script = steps.as_str().replace(alloc, "ERRNO", errno)?;
+    let mut trial = opened(alloc)?;
+    trial.plays(rt, script.as_str())
+}
+
+#[test]
+fn a_path_is_refused_by_its_text_first(rt: HostRuntime) -> Result<(), Fail> {
+    refuses_path(&rt, rt.alloc(), "-", "ENOENT")?;
+    refuses_path(&rt, rt.alloc(), "/\0", "EINVAL")?;
+    refuses_path(&rt, rt.alloc(), "/Nn/\0", "EINVAL")?;
+    refuses_path(&rt, rt.alloc(), "/Nn/..", "ENAMETOOLONG")?;
+    refuses_path(&rt, rt.alloc(), "/N/N/N/N/", "ENAMETOOLONG")
+}
+
+#[test]
+fn the_longest_names_and_paths_are_taken(rt: HostRuntime) -> Result<(), Fail> {
+    let mut trial = opened(rt.alloc())?;
+    trial.plays(
+        &rt,
+        "
+        1 stat /N = ENOENT
+        1 stat /N/N/N/N = ENOENT
+        1 mkdir /N = done
+        1 stat /N = folder
+        1 mkdir /d = done
+        1 chdir /d = /d
+        1 stat N/N/N = ENOENT
+        1 stat N/N/N/N = ENAMETOOLONG
     ",
     )
 }

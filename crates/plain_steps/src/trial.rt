@@ -8,10 +8,10 @@ ghost use Rattle.vfs_model.specs.Namespace.{same_path};
 ghost use Rattle.vfs_model.specs.NamespaceStep.{is_shutdown};
 
 use crate::printing::push_reply;
-use crate::references::references_of;
 use crate::stepping::{asker, step_of};
-use crate::trees::same_path;
 use crate::world::PlainWorld;
+use plain_names::references_of;
+use plain_nodes::trees::same_path;
 use std::alloc::Global;
 use std::process::Abort;
 use std::test::Fail;

@@ -4,24 +4,22 @@ ghost use Rattle.std.specs.Prelude.{◌≡◌, false, true, None, IfOk, IfErr, O
 ghost use Rattle.vfs_model.specs.Asking.{MayAsk};
 ghost use Rattle.vfs_model.specs.NamespaceStep.{fits_namespace, is_shutdown, namespace_step};
 ghost use Rattle.vfs_model.specs.World.{FitsStep, fits_step, namespace_part, session_of, step_row, world_step};
-ghost use Rattle.plain_steps.specs.Gives.{Gives};
+ghost use Rattle.plain_nodes.specs.Gives.{Gives};
 ghost use Rattle.plain_steps.specs.Opening.{HasFewCellsEach, OpensAs, StopsOpening, is_untold, rom_images};
-ghost use Rattle.plain_steps.specs.Sizes.{IsSized};
-ghost use Rattle.plain_steps.specs.WorldAnswer.{leaving, world_answer};
+ghost use Rattle.plain_nodes.specs.Sizes.{IsSized};
+ghost use Rattle.plain_nodes.specs.WorldAnswer.{leaving, world_answer};
 
-use crate::mount_steps::{
-    cells_in, dentries_in, devices_in, mkfs_in, mount_in, mounts_in, shut_down, umount_in,
-};
 use crate::plain_fault::PlainFault;
 use crate::roms::rom_images;
-use crate::session_steps::{
+use crate::start::opening_world;
+use plain_files::{fits_row, step_row};
+use plain_mounts::{may_umount, mkfs_in, mount_in, shut_down, umount_in};
+use plain_names::{
     chdir_in, close_in, cwd_in, home_in, list_in, map_in, mkdir_in, open_in, rename_in, rmdir_in,
     stat_in, unlink_in, unmap_in,
 };
-use crate::start::opening_world;
-use crate::stop::Stop;
-use crate::unmounting::may_umount;
-use plain_files::{fits_row, step_row};
+use plain_nodes::stop::Stop;
+use plain_reports::{cells_in, dentries_in, devices_in, mounts_in};
 use std::alloc::Global;
 use std::marker::Model;
 use vfs_base::{Deck, Describe, Errno, Mark, NoMemory, Reply, RowId, SessionId, Step, Who};
@@ -35,7 +33,7 @@ pub struct PlainWorld {
 
 impl Model for PlainWorld {
     ghost use Rattle.vfs_model.specs.declared.world.World.{World};
-    ghost use Rattle.plain_steps.specs.Sizes.{IsSized};
+    ghost use Rattle.plain_nodes.specs.Sizes.{IsSized};
 
     ghost Value = { World };
 

@@ -1,7 +1,7 @@
 use Rattle.std.proofs.Common.{◌≡◌, subst, sym}
 use Rattle.std.specs.Prelude.{IfOk}
 use Rattle.vfs_model.specs.World.{session_of}
-use Rattle.plain_steps.specs.WorldAnswer.{leaving}
+use Rattle.plain_nodes.specs.WorldAnswer.{leaving}
 use Rattle.plain_steps.proofs.WorldSteps.{shuts}
 use Rattle.plain_steps.proofs.world.step_namespace.Goals as goal
 

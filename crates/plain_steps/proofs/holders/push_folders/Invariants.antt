@@ -1,5 +1,0 @@
-use Rattle.std.proofs.Common.{◌≡◌, ◌++◌, drop}
-use Rattle.plain_steps.proofs.holders.push_folders.Given as goal
-
-abbrev pub invariant-loop-folder : goal.invariant-loop-folder
-invariant-loop-folder l = l.paths ++ drop l.folder-index l.folders ≡ l.initial.paths ++ l.folders

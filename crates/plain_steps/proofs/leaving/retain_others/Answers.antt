@@ -1,9 +1,0 @@
-use Rattle.std.proofs.Common.{rules, ◌==◌}
-use Rattle.std.specs.Prelude.{not}
-use Rattle.std.proofs.lemmas.Fn.{filter_same}
-use Rattle.vfs_model.specs.declared.namespace.Mount.{Mount}
-use Rattle.plain_steps.proofs.leaving.retain_others.Goals as goal
-
-pub returns : goal.returns
-returns c =
-    filter_same _ (λ (other : Mount). not (other.number == c.args.number)) _ (λ other kept f called. search rules) _ _ c.retain.ensures.filtered

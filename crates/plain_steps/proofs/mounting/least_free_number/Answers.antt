@@ -1,7 +1,0 @@
-use Rattle.plain_steps.proofs.Numbers.{number_passed}
-use Rattle.plain_steps.proofs.mounting.least_free_number.Goals as goal
-
-pub loop-number-preserved : goal.loop-number-preserved
-loop-number-preserved c =
-    number_passed c.args.namespace.now c.loop-number.number c.loop-number-test.true
-    (cc (c.has_number.ensures, c.if-not-has_number.false)) c.loop-number.invariant

@@ -1,9 +1,0 @@
-use Rattle.std.proofs.Common.{◌≡◌, ◌+◌, drop}
-use Rattle.std.specs.Prelude.{is_none}
-use Rattle.std.specs.List.{position_or_len}
-use Rattle.plain_steps.proofs.references.first_empty.Given as goal
-
-abbrev pub invariant-loop-reference : goal.invariant-loop-reference
-invariant-loop-reference l =
-    (l.place ≡ l.reference-index)
-    × (l.place + position_or_len is_none (drop l.reference-index l.references) ≡ position_or_len is_none l.references)

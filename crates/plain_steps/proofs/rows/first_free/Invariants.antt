@@ -1,8 +1,0 @@
-use Rattle.std.proofs.Common.{◌≡◌, ◌+◌, drop}
-use Rattle.plain_steps.specs.Rows.{first_free}
-use Rattle.plain_steps.proofs.rows.first_free.Given as goal
-
-abbrev pub invariant-loop-life : goal.invariant-loop-life
-invariant-loop-life l =
-    (l.place ≡ l.life-index)
-    × (l.place + first_free (drop l.life-index l.lives) l.later ≡ first_free l.lives l.generations)
