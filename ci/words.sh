@@ -3,7 +3,7 @@
 cd "$(dirname "$0")/.." || exit 2
 found=$(grep -rnE --exclude-dir=out \
     '\b[DTW][0-9]{1,2}(\.[0-9])?\b|\bR[0-9]{1,2}[ab]?\b|document 0[1-4]|[Ss]ection [0-9]|\b[Rr]ow [0-9]+[ab]?\b' \
-    crates docs README.md | grep -v '(row ')
+    crates docs README.md | grep -vE '\(row |: row [0-9]+: E')
 if [ -n "$found" ]; then
     printf 'words.sh: numbers that refer outside the repository:\n%s\n' "$found" >&2
     exit 1

@@ -42,8 +42,7 @@ fn seeks(
     off: i64,
     whence: Whence,
     want: Result<u64, FdFault>,
-) -> Result<(), NoMemory>
-{
+) -> Result<(), NoMemory> {
     let mut table = FdTable::new(alloc)?;
     let fd = table
         .add(file(rt, 1, place))

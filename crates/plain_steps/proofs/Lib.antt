@@ -1,4 +1,5 @@
 pub mod Copies
+pub mod FileReplies
 pub mod RomTexts
 pub mod SizedStart
 pub mod Started

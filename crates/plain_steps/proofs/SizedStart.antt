@@ -1,8 +1,8 @@
 -- The namespace at the start is no larger than it may be.
-use Rattle.std.proofs.Common.{◌≡◌, ℕ, zero, suc, ◌≤◌, List, [], ◌∷◌, length, map, replicate, refl, ap, arith}
+use Rattle.std.proofs.Common.{◌≡◌, ℕ, zero, suc, ◌-◌, ◌≤◌, List, [], ◌∷◌, length, map, replicate, refl, ap, arith}
 use Rattle.std.specs.Prelude.{Option, None, true, slice_index_or}
 use Rattle.std.proofs.lemmas.List.{length-replicate}
-use Rattle.vfs_base.specs.Path.{AllAre, Path}
+use Rattle.vfs_base.specs.Path.{AllAre, Path, printed}
 use Rattle.vfs_base.specs.declared.describe.Describe.{Describe}
 use Rattle.vfs_base.specs.declared.describe.VolumeShape.{VolumeShape}
 use Rattle.vfs_model.specs.Content.{no_rom}
@@ -19,6 +19,11 @@ empty_at : (n j : ℕ) → slice_index_or {A = Tree} (replicate n []) j [] ≡ [
 empty_at zero j = refl
 empty_at (suc n) zero = refl
 empty_at (suc n) (suc j) = empty_at n j
+
+root_at : (n j : ℕ) → slice_index_or {A = Path} (replicate n []) j [] ≡ []
+root_at zero j = refl
+root_at (suc n) zero = refl
+root_at (suc n) (suc j) = root_at n j
 
 item_at : {X : Type 0} (P : X → Type 0) (xs : List X) (i : ℕ) (d : X) → AllAre P xs → P d → P (slice_index_or xs i d)
 item_at P [] i d h p = p
@@ -40,6 +45,7 @@ sized_start roms describe small few = record {
   generations = length-replicate {A = ℕ} 1024 0;
   references = omega (arith, length-replicate {A = Option Reference} 256 None);
   folders = omega (arith, length-replicate {A = Path} 8 []);
+  short = λ k. omega (arith, ap (λ (folder : Path). length (printed folder)) (root_at 8 (k - 1)));
   mounts = omega arith;
   places = length-replicate {A = Tree} 16 [];
   trees = λ j. omega (arith, ap (λ (tree : Tree). length tree) (empty_at 16 j));

@@ -1,6 +1,6 @@
 -- The steps of the world that sessions ask, by what the namespace answers.
-use Rattle.std.proofs.Common.{◌≡◌, ◌≢◌, ℕ, refl, ap, ◌∙◌}
-use Rattle.std.specs.Prelude.{Bool, true, false, ◌&&◌, None, Result, Ok, Err}
+use Rattle.std.proofs.Common.{◌≡◌, ℕ, refl, ap, sym, ◌∙◌}
+use Rattle.std.specs.Prelude.{Bool, true, false, ◌&&◌, ◌||◌, is_some, None, Result, Ok, Err}
 use Rattle.vfs_base.specs.declared.entry.Mark.TheVariants as mark
 use Rattle.vfs_base.specs.declared.entry.Who.{Who}
 use Rattle.vfs_base.specs.declared.entry.Who.TheVariants as who
@@ -9,9 +9,10 @@ use Rattle.vfs_base.specs.declared.errno.Errno.TheVariants as errno
 use Rattle.vfs_base.specs.declared.reply.Reply.TheVariants as reply
 use Rattle.vfs_base.specs.declared.step.Step.{Step}
 use Rattle.vfs_base.specs.declared.step.Step.TheVariants as step
-use Rattle.vfs_model.specs.Asking.{is_flush_of, is_reclaim_of, is_at_rest, may_ask}
+use Rattle.vfs_model.specs.Asking.{is_at_rest, may_ask}
 use Rattle.vfs_model.specs.NamespaceOutcome.{NamespaceOutcome, refused, settled}
 use Rattle.vfs_model.specs.NamespaceStep.{is_shutdown, namespace_answer, namespace_step, shutdown_step, under_mark}
+use Rattle.vfs_model.specs.StepForms.{MayTake}
 use Rattle.vfs_model.specs.World.{WorldOutcome, namespace_part, step_row}
 use Rattle.vfs_model.specs.declared.namespace.Namespace.{Namespace}
 use Rattle.vfs_model.specs.declared.world.World.{World}
@@ -69,28 +70,40 @@ pub want_refused : (w : World) (k moved : ℕ) (asked : Step) → is_shutdown as
 want_refused w k moved asked s =
     ap (λ told. namespace_part w told asked) (marked w.namespace k asked (mark.NoMem moved) s) ∙ stays w errno.ENOMEM asked
 
-flush_has_row : (row : ℕ) (asked : Step) → is_flush_of row asked ≡ true → step_row asked ≢ None
-flush_has_row row (step.Flush other) e n = absurd (cc (n))
-flush_has_row row _ e n = absurd (cc (e))
-
-reclaim_has_row : (row : ℕ) (asked : Step) → is_reclaim_of row asked ≡ true → step_row asked ≢ None
-reclaim_has_row row (step.Reclaim other) e n = absurd (cc (n))
-reclaim_has_row row _ e n = absurd (cc (e))
-
--- whoever asks a step of the namespace, but for Shutdown, is a session
+-- whoever takes a step of the namespace, but for Shutdown, is a session
 abbrev pub is_session : Who → Bool
 is_session (who.Session k) = true
 is_session (who.Flush row) = false
 is_session (who.Reclaim row) = false
 is_session who.End = false
 
-pub asked_by_session : (w : World) (asker : Who) (asked : Step) → may_ask w asker asked ≡ true → step_row asked ≡ None →
-    is_shutdown asked ≡ false → is_session asker ≡ true
+-- a step of the namespace is not taken by others, but for Shutdown
+taken_by_session : (asked : Step) → (is_some (step_row asked) || is_shutdown asked) ≡ true → step_row asked ≡ None → is_shutdown asked ≡ false → true ≡ false
+taken_by_session asked e n s = sym e ∙ (ap (λ row. is_some row || is_shutdown asked) n ∙ s)
+
+pub asked_by_session : (asker : Who) (asked : Step) → MayTake asker asked → step_row asked ≡ None → is_shutdown asked ≡ false → is_session asker ≡ true
+asked_by_session (who.Session k) asked e n s = refl
+asked_by_session (who.Flush row) asked e n s = absurd (cc (taken_by_session asked e n s))
+asked_by_session (who.Reclaim row) asked e n s = absurd (cc (taken_by_session asked e n s))
+asked_by_session who.End asked e n s = absurd (cc (taken_by_session asked e n s))
+
+or_shutdown : (front shutdown : Bool) → shutdown ≡ true → (front || shutdown) ≡ true
+or_shutdown true shutdown e = refl
+or_shutdown false shutdown e = e
+
+-- who may ask a step may take it
+pub may_take : (w : World) (asker : Who) (asked : Step) → may_ask w asker asked ≡ true → MayTake asker asked
 unfolding may_ask
-asked_by_session w (who.Session k) asked e n s = refl
-asked_by_session w (who.Flush row) asked e n s = absurd (flush_has_row row asked e n)
-asked_by_session w (who.Reclaim row) asked e n s = absurd (reclaim_has_row row asked e n)
-asked_by_session w who.End asked e n s = absurd (cc (ap (λ b. b && is_at_rest w.namespace) s, e))
+may_take w (who.Session k) asked e = tt
+may_take w (who.Flush row) (step.Flush other) e = refl
+may_take w (who.Flush row) _ e = absurd (cc (e))
+may_take w (who.Reclaim row) (step.Reclaim other) e = refl
+may_take w (who.Reclaim row) _ e = absurd (cc (e))
+may_take w who.End asked e = by_shutdown (is_shutdown asked) refl e
+  where
+    by_shutdown : (b : Bool) → is_shutdown asked ≡ b → (b && is_at_rest w.namespace) ≡ true → (is_some (step_row asked) || is_shutdown asked) ≡ true
+    by_shutdown true is e = or_shutdown (is_some (step_row asked)) (is_shutdown asked) is
+    by_shutdown false is e = absurd (cc (e))
 
 -- at the end it is Shutdown that is asked, whoever asks
 pub shuts : (w : World) (k : ℕ) (asked : Step) (m : Mark) → is_shutdown asked ≡ true →

@@ -65,6 +65,7 @@ impl Trial {
     }
 
     // What the step shows.
+    #[tactic(auto, using(crate::proofs::WorldSteps::may_take))]
     fn reply_text(&mut self, who: Who, step: &Step, mark: Mark) -> Result<Bytes, Fail> {
         if !may_ask(&self.world.world, who, step) {
             return Ok(copy_bytes(self.alloc, b"unasked")?);

@@ -1,8 +1,8 @@
 //! The plain world: one step of it, and the marks that a step may have.
 
 ghost use Rattle.std.specs.Prelude.{◌≡◌, false, true, None, IfOk, IfErr, OnOk, OnErr};
-ghost use Rattle.vfs_model.specs.Asking.{MayAsk};
 ghost use Rattle.vfs_model.specs.NamespaceStep.{fits_namespace, is_shutdown, namespace_step};
+ghost use Rattle.vfs_model.specs.StepForms.{MayTake, TellsFolder};
 ghost use Rattle.vfs_model.specs.World.{FitsStep, fits_step, namespace_part, session_of, step_row, world_step};
 ghost use Rattle.plain_nodes.specs.Gives.{Gives};
 ghost use Rattle.plain_steps.specs.Opening.{HasFewCellsEach, OpensAs, StopsOpening, is_untold, rom_images};
@@ -67,8 +67,9 @@ impl PlainWorld {
         Ok(PlainWorld { world })
     }
 
-    /// One step, with a mark that it may have. An `Err` is want of memory, and then nothing has
-    /// changed.
+    /// One step, with a mark that it may have; any step of a session, and of others a file's step, the
+    /// worker's or the end's. A folder that the reply tells has at most 1024 printed bytes. An `Err` is
+    /// want of memory, and then nothing has changed.
     #[tactic(auto, unfolding(vfs_model::specs::World::world_step, vfs_model::specs::World::fits_step))]
     pub fn step(
         &mut self,
@@ -77,9 +78,10 @@ impl PlainWorld {
         step: &Step,
         mark: Mark,
     ) -> Result<Reply, NoMemory>
-        requires asks { MayAsk self.old who step.now }
+        requires asks { MayTake who step.now }
         requires fits { FitsStep self.old who step.now mark }
         ensures ok { IfOk result (λ reply. world_step self.old who step.now mark ≡ leaving self.new reply) }
+        ensures folder { IfOk result TellsFolder }
         ensures err { OnErr result (self.new ≡ self.old) }
     {
         match row_of(step) {
@@ -91,7 +93,7 @@ impl PlainWorld {
     /// Whether the step may have the mark.
     #[tactic(auto, unfolding(vfs_model::specs::World::fits_step))]
     pub fn fits(&self, alloc: Global, who: Who, step: &Step, mark: Mark) -> Result<bool, NoMemory>
-        requires { MayAsk self.now who step.now }
+        requires { MayTake who step.now }
         ensures { IfOk result (λ fits. fits ≡ fits_step self.now who step.now mark) }
     {
         match row_of(step) {
@@ -142,9 +144,10 @@ fn step_namespace(
     mark: Mark,
 ) -> Result<Reply, NoMemory>
     requires sized { IsSized world.old.namespace }
-    requires asks { MayAsk world.old who step.now }
+    requires asks { MayTake who step.now }
     requires row { step_row step.now ≡ None }
     ensures ok { IfOk result (λ reply. namespace_part world.old (namespace_step world.old.namespace (session_of who) step.now mark) step.now ≡ leaving world.new reply) }
+    ensures folder { IfOk result TellsFolder }
     ensures err { OnErr result (world.new ≡ world.old) }
     ensures sized { IsSized world.new.namespace }
 {
@@ -169,6 +172,7 @@ fn session_step(
     requires sized { IsSized world.old.namespace }
     requires goes_on { is_shutdown step.now ≡ false }
     ensures ok { IfOk result (λ reply. namespace_part world.old (namespace_step world.old.namespace session step.now mark) step.now ≡ leaving world.new reply) }
+    ensures folder { IfOk result TellsFolder }
     ensures err { OnErr result (world.new ≡ world.old) }
     ensures sized { IsSized world.new.namespace }
 {
@@ -193,6 +197,7 @@ fn take_step(
 ) -> Result<Reply, Stop>
     requires sized { IsSized world.old.namespace }
     ensures told { Gives (leaving world.new) result (world_answer world.old session step.now) }
+    ensures folder { IfOk result TellsFolder }
     ensures err { OnErr result (world.new ≡ world.old) }
     ensures sized { IsSized world.new.namespace }
 {
@@ -230,7 +235,7 @@ fn fits_namespace(
     step: &Step,
     mark: Mark,
 ) -> Result<bool, NoMemory>
-    requires asks { MayAsk world.now who step.now }
+    requires asks { MayTake who step.now }
     requires row { step_row step.now ≡ None }
     ensures { IfOk result (λ fits. fits ≡ fits_namespace world.now.namespace (session_of who) step.now mark) }
 {
