@@ -10,9 +10,19 @@ use std::process::Abort;
 use std::test::Fail;
 use vfs_base::{Bytes, NoMemory, Reply};
 
-/// A shell, its command at hand, and what is shown and wanted since they were compared.
+/// Plays a script on a shell at its start and shows that what comes is the script itself.
+///
+/// `msh />LINE` begins the command of a line, `? STEP = REPLY` is the step that it asks and the reply that it
+/// gets, `own STEP ..` are the steps that give back what it has, and each other line is a line that it shows:
+/// `%` stands where a line feed lacks, `~` for a space, and `(empty)` for an empty line.
+pub fn plays(rt: &impl Abort, alloc: Global, script: &str) -> Result<(), Fail> {
+    let mut dialogue = Dialogue::new(alloc)?;
+    dialogue.plays(rt, script)
+}
+
+// A shell, its command at hand, and what is shown and wanted since they were compared.
 #[derive(Drop)]
-pub struct Dialogue {
+struct Dialogue {
     alloc: Global,
     desk: Desk,
     command: Option<Command>,
@@ -21,7 +31,7 @@ pub struct Dialogue {
 }
 
 impl Dialogue {
-    pub fn new(alloc: Global) -> Result<Dialogue, NoMemory> {
+    fn new(alloc: Global) -> Result<Dialogue, NoMemory> {
         Ok(Dialogue {
             alloc,
             desk: Desk::new(alloc)?,
@@ -31,12 +41,7 @@ impl Dialogue {
         })
     }
 
-    /// Plays a script and shows that what comes is the script itself.
-    ///
-    /// `msh />LINE` begins the command of a line, `? STEP = REPLY` is the step that it asks and the reply
-    /// that it gets, `own STEP, ..` gives back what it has, and each other line is a line that it shows:
-    /// `%` stands where a line feed lacks, and `(empty)` for an empty line.
-    pub fn plays(&mut self, rt: &impl Abort, script: &str) -> Result<(), Fail> {
+    fn plays(&mut self, rt: &impl Abort, script: &str) -> Result<(), Fail> {
         for line in script.lines() {
             self.plays_line(rt, line.trim())?;
         }
@@ -73,7 +78,7 @@ impl Dialogue {
             return Ok(());
         }
         if line != "(empty)" {
-            self.wanted.extend_from_slice(line.as_bytes())?;
+            push_wanted(&mut self.wanted, line.as_bytes())?;
         }
         self.wanted.push(b'\n')
     }
@@ -156,5 +161,19 @@ impl Dialogue {
         self.shown.extend_from_slice(b"own")?;
         push_steps(&mut self.shown, self.alloc, command)?;
         Ok(self.shown.push(b'\n')?)
+    }
+}
+
+fn push_wanted(out: &mut Bytes, line: &[u8]) -> Result<(), NoMemory> {
+    for byte in line {
+        out.push(wanted_byte(*byte))?;
+    }
+    Ok(())
+}
+
+fn wanted_byte(byte: u8) -> u8 {
+    match byte {
+        b'~' => b' ',
+        byte => byte,
     }
 }

@@ -1,13 +1,14 @@
 //! Commands beside the steps that they ask and what they show: each with success, and each refusal where another
 //! would come behind it.
 
-use crate::dialogue::Dialogue;
+use crate::dialogue::plays;
 use std::test::Fail;
 
 #[test]
 fn folders_are_told_moved_to_and_listed(rt: HostRuntime) -> Result<(), Fail> {
-    Dialogue::new(rt.alloc())?.plays(
+    plays(
         &rt,
+        rt.alloc(),
         "
         msh />pwd
         ? cwd = at /a/b
@@ -64,8 +65,9 @@ fn folders_are_told_moved_to_and_listed(rt: HostRuntime) -> Result<(), Fail> {
 
 #[test]
 fn names_are_made_moved_and_removed(rt: HostRuntime) -> Result<(), Fail> {
-    Dialogue::new(rt.alloc())?.plays(
+    plays(
         &rt,
+        rt.alloc(),
         "
         msh />mkdir \"/x y/\"z
         ? mkdir /x y/z = ENOENT
@@ -133,8 +135,9 @@ fn names_are_made_moved_and_removed(rt: HostRuntime) -> Result<(), Fail> {
 
 #[test]
 fn mounts_and_devices_are_told(rt: HostRuntime) -> Result<(), Fail> {
-    Dialogue::new(rt.alloc())?.plays(
+    plays(
         &rt,
+        rt.alloc(),
         "
         msh />mount sd0 /v cell
         ? mount sd0 /v cell = done
@@ -200,7 +203,7 @@ fn mounts_and_devices_are_told(rt: HostRuntime) -> Result<(), Fail> {
         msh />sync
         ? cells = files 7 8
         ? sync 7 = EIO
-        sync: row 7: EIO
+        sync: row~7: EIO
         msh />sync
         ? cells = ENOMEM
         sync: ENOMEM
@@ -221,8 +224,9 @@ fn mounts_and_devices_are_told(rt: HostRuntime) -> Result<(), Fail> {
 
 #[test]
 fn texts_are_shown_and_appended(rt: HostRuntime) -> Result<(), Fail> {
-    Dialogue::new(rt.alloc())?.plays(
+    plays(
         &rt,
+        rt.alloc(),
         "
         msh />cat /f /u
         ? open /f r = opened 1 2 tmp
@@ -299,8 +303,9 @@ fn texts_are_shown_and_appended(rt: HostRuntime) -> Result<(), Fail> {
 
 #[test]
 fn files_are_copied(rt: HostRuntime) -> Result<(), Fail> {
-    Dialogue::new(rt.alloc())?.plays(
+    plays(
         &rt,
+        rt.alloc(),
         "
         msh />cp a b
         ? open a r = opened 1 2 rom
@@ -377,8 +382,9 @@ fn files_are_copied(rt: HostRuntime) -> Result<(), Fail> {
 
 #[test]
 fn open_files_are_read_written_and_placed(rt: HostRuntime) -> Result<(), Fail> {
-    Dialogue::new(rt.alloc())?.plays(
+    plays(
         &rt,
+        rt.alloc(),
         "
         msh />open /f rw,creat
         ? open /f rwc = opened 1 2 tmp
@@ -513,8 +519,9 @@ fn open_files_are_read_written_and_placed(rt: HostRuntime) -> Result<(), Fail> {
 
 #[test]
 fn descriptors_come_and_go(rt: HostRuntime) -> Result<(), Fail> {
-    Dialogue::new(rt.alloc())?.plays(
+    plays(
         &rt,
+        rt.alloc(),
         "
         msh />open /f rw,trunc
         ? open /f rwt = opened 1 2 cell
@@ -610,8 +617,9 @@ fn descriptors_come_and_go(rt: HostRuntime) -> Result<(), Fail> {
 
 #[test]
 fn mappings_come_and_go(rt: HostRuntime) -> Result<(), Fail> {
-    Dialogue::new(rt.alloc())?.plays(
+    plays(
         &rt,
+        rt.alloc(),
         "
         msh />open /f rw
         ? open /f rw = opened 1 2 cell

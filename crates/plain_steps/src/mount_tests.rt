@@ -1,6 +1,6 @@
 //! Mounts of the plain world, and the files on them: steps beside their replies.
 
-use crate::tests::opened;
+use crate::tests::{opened, plays};
 use crate::trial::Trial;
 use std::alloc::Global;
 use std::process::Abort;
@@ -8,9 +8,9 @@ use std::test::Fail;
 
 #[test]
 fn a_mount_is_refused_and_stands(rt: HostRuntime) -> Result<(), Fail> {
-    let mut trial = opened(rt.alloc())?;
-    trial.plays(
+    plays(
         &rt,
+        rt.alloc(),
         "
         1 mkdir /m = done
         1 mkdir /m/x = done
@@ -71,9 +71,9 @@ fn a_mount_is_refused_and_stands(rt: HostRuntime) -> Result<(), Fail> {
 
 #[test]
 fn an_unmount_waits_for_what_uses_the_mount(rt: HostRuntime) -> Result<(), Fail> {
-    let mut trial = opened(rt.alloc())?;
-    trial.plays(
+    plays(
         &rt,
+        rt.alloc(),
         "
         1 mkdir /m = done
         1 mkdir /mm = done
@@ -107,9 +107,9 @@ fn an_unmount_waits_for_what_uses_the_mount(rt: HostRuntime) -> Result<(), Fail>
 
 #[test]
 fn files_of_each_kind(rt: HostRuntime) -> Result<(), Fail> {
-    let mut trial = opened(rt.alloc())?;
-    trial.plays(
+    plays(
         &rt,
+        rt.alloc(),
         "
         1 mkdir /r = done
         1 mkdir /d = done

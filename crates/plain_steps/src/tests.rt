@@ -47,11 +47,17 @@ pub fn opened(alloc: Global) -> Result<Trial, Fail> {
     Trial::new(alloc, world)
 }
 
+/// Plays a script in a world at its start: the step of each line has the reply behind the `=`.
+pub fn plays(rt: &impl Abort, alloc: Global, script: &str) -> Result<(), Fail> {
+    let mut trial = opened(alloc)?;
+    trial.plays(rt, script)
+}
+
 #[test]
 fn names_are_made_listed_and_removed(rt: HostRuntime) -> Result<(), Fail> {
-    let mut trial = opened(rt.alloc())?;
-    trial.plays(
+    plays(
         &rt,
+        rt.alloc(),
         "
         1 open /f rwc = opened 1 file 1.1 tmp
         1 stat - = ENOENT
@@ -107,9 +113,9 @@ fn names_are_made_listed_and_removed(rt: HostRuntime) -> Result<(), Fail> {
 
 #[test]
 fn files_are_opened_mapped_and_given_up(rt: HostRuntime) -> Result<(), Fail> {
-    let mut trial = opened(rt.alloc())?;
-    trial.plays(
+    plays(
         &rt,
+        rt.alloc(),
         "
         1 open - c = ENOENT
         1 open /x/y c = EINVAL
@@ -150,9 +156,9 @@ fn files_are_opened_mapped_and_given_up(rt: HostRuntime) -> Result<(), Fail> {
 
 #[test]
 fn a_rename_moves_all_below(rt: HostRuntime) -> Result<(), Fail> {
-    let mut trial = opened(rt.alloc())?;
-    trial.plays(
+    plays(
         &rt,
+        rt.alloc(),
         "
         1 mkdir /a = done
         1 mkdir /a/b = done
@@ -198,9 +204,9 @@ fn a_rename_moves_all_below(rt: HostRuntime) -> Result<(), Fail> {
 
 #[test]
 fn a_file_is_read_and_written(rt: HostRuntime) -> Result<(), Fail> {
-    let mut trial = opened(rt.alloc())?;
-    trial.plays(
+    plays(
         &rt,
+        rt.alloc(),
         "
         1 read 0 4 = unasked
         1 open /f rwc = opened 1 file 1.1 tmp
@@ -237,9 +243,9 @@ fn a_file_is_read_and_written(rt: HostRuntime) -> Result<(), Fail> {
 
 #[test]
 fn marks_and_the_end(rt: HostRuntime) -> Result<(), Fail> {
-    let mut trial = opened(rt.alloc())?;
-    trial.plays(
+    plays(
         &rt,
+        rt.alloc(),
         "
         1 mounts = / tmp none nodes 0 spare 4096;
         1 cells = files:
@@ -268,21 +274,22 @@ fn marks_and_the_end(rt: HostRuntime) -> Result<(), Fail> {
     )
 }
 
+// Opens a file by each reference that is left.
+fn takes_references(trial: &mut Trial, rt: &impl Abort, alloc: Global) -> Result<(), Fail> {
+    for number in 2..33 {
+        let line = format!(in alloc; "1 open /f r = opened {number} file 3.1 tmp")?;
+        trial.plays(rt, line.as_str())?;
+    }
+    Ok(())
+}
+
 #[test]
 fn references_run_out(rt: HostRuntime) -> Result<(), Fail> {
     let mut trial = opened(rt.alloc())?;
-    trial.plays(
-        &rt,
-        "
-        1 mkdir /r = done
-        1 mount r /r rom = done
-        1 open /f rwc = opened 1 file 3.1 tmp
-    ",
-    )?;
-    for number in 2..33 {
-        let line = format!(in rt.alloc(); "1 open /f r = opened {number} file 3.1 tmp")?;
-        trial.plays(&rt, line.as_str())?;
-    }
+    trial.plays(&rt, "1 mkdir /r = done")?;
+    trial.plays(&rt, "1 mount r /r rom = done")?;
+    trial.plays(&rt, "1 open /f rwc = opened 1 file 3.1 tmp")?;
+    takes_references(&mut trial, &rt, rt.alloc())?;
     trial.plays(
         &rt,
         "
@@ -349,8 +356,7 @@ fn refuses_path(rt: &impl Abort, alloc: Global, path: &str, errno: &str) -> Resu
     ";
     let steps = steps.replace(alloc, "PATH", path)?;
     let script = steps.as_str().replace(alloc, "ERRNO", errno)?;
-    let mut trial = opened(alloc)?;
-    trial.plays(rt, script.as_str())
+    plays(rt, alloc, script.as_str())
 }
 
 #[test]
@@ -364,9 +370,9 @@ fn a_path_is_refused_by_its_text_first(rt: HostRuntime) -> Result<(), Fail> {
 
 #[test]
 fn the_longest_names_and_paths_are_taken(rt: HostRuntime) -> Result<(), Fail> {
-    let mut trial = opened(rt.alloc())?;
-    trial.plays(
+    plays(
         &rt,
+        rt.alloc(),
         "
         1 stat /N = ENOENT
         1 stat /N/N/N/N = ENOENT
