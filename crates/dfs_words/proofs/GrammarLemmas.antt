@@ -1,9 +1,9 @@
 -- What the parser makes of words by the grammar.
-use Rattle.std.proofs.Common.{◌≡◌, ℕ, ◌==◌, ◌||◌, Bool, true, false, Option, Some, None, List, [], ◌∷◌, codes, refl, sym, ap, ◌∙◌, ◌⊎◌, inl, inr, ⊎_elim, slice_get, bytes_eq, chars, subst, eqb-true, map, option_map, Bor}
+use Rattle.std.proofs.Common.{◌≡◌, ℕ, ◌==◌, ◌||◌, Bool, true, false, Option, Some, None, List, [], ◌∷◌, codes, refl, sym, ap, ◌∙◌, ◌⊎◌, inl, inr, slice_get, bytes_eq, chars, subst, eqb-true, map, option_map, Bor}
 use Rattle.std.specs.List.{list_any}
-use Rattle.std.proofs.lemmas.Bool.{cases_Bool, or_parts, both_ways}
+use Rattle.std.proofs.lemmas.Bool.{cases_Bool, or_parts}
 use Rattle.std.proofs.lemmas.Slice.Eq.{bytes_eq-Decides}
-use Rattle.clap.specs.Walk.{Held, Text, bundle_met, first_of, idle, nothing_held, value, walked, word_met}
+use Rattle.clap.specs.Walk.{Held, Text, bundle_met, first_of, idle, value, walked, word_met}
 use Rattle.clap.specs.Simple.{Shape, built, is_simple, matches_of}
 use Rattle.clap.specs.Faults.{defaults_fault, fault_of, flags_fault, walk_fault, word_fault}
 use Rattle.clap.specs.declared.error.kind.ErrorKind.TheVariants.{OutOfMemory, UnknownArgument}
