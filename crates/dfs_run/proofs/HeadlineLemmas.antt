@@ -12,7 +12,7 @@ use Rattle.vfs_model.specs.FirstTranscript.{shown_by, shell_shown}
 use Rattle.vfs_model.specs.Tree.{Tree, opening_tree}
 use Rattle.dfs_run.specs.Serving.{Moment, opening_moment, WhereTold, ComeFirst, Serves, ShowsText, Posts, BreaksOff, shutdown}
 use Rattle.dfs_run.specs.Stopping.{MeetsBadLine, MeetsReadFault}
-use Rattle.dfs_run.specs.LineReader.{BeginsBad}
+use Rattle.dfs_input.specs.LineReader.{BeginsBad}
 use Rattle.dfs_run.specs.Headline.{ShowsFront, ShowsBlocks, ShowsLinesRead, lines_in_form}
 use Rattle.dfs_run.specs.Ending.{EndsWell, EndsAtBadLine, EndsAtReadFault}
 use Rattle.dfs_run.proofs.ServingLemmas.{map-append}

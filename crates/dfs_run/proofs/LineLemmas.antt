@@ -9,10 +9,10 @@ use Rattle.vfs_model.specs.FirstTranscript.Turn.{Finished}
 use Rattle.vfs_model.specs.Tree.{Tree}
 use Rattle.dfs_run.specs.declared.report.FaultNote.{FaultNote}
 use Rattle.dfs_run.specs.declared.report.FaultNote.TheVariants as fault
-use Rattle.dfs_run.specs.LineReader.{ReaderState, ahead, ReadsLine, TakesLine}
+use Rattle.dfs_input.specs.LineReader.{ReaderState, ahead, ReadsLine, TakesLine}
 use Rattle.dfs_run.specs.Serving.{Moment, moment_of, WhereTold, ComeFirst, Serves, BreaksOff}
 use Rattle.dfs_run.specs.Stopping.{ServesAll, Stops, StopsAtLine, StopsPosting, WritesBlock}
-use Rattle.dfs_run.proofs.ScriptLemmas.{first_bad_from-next, whole_lines-front}
+use Rattle.dfs_input.proofs.ScriptLemmas.{first_bad_from-next, whole_lines-front}
 use Rattle.dfs_run.proofs.ServingLemmas.{Serves-refl, Serves-then}
 
 -- what is known of the next line, as the served lines say it

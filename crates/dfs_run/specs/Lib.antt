@@ -1,6 +1,5 @@
 pub mod Ending
 pub mod Headline
-pub mod LineReader
 pub mod Report
 pub mod Serving
 pub mod Stopping

@@ -10,7 +10,7 @@ use Rattle.vfs_model.specs.Script.{raw_lines, line_text, whole_lines, first_bad_
 use Rattle.vfs_model.specs.FirstTranscript.{put_before, shown_by, shown_at_end, take_line}
 use Rattle.vfs_model.specs.FirstTranscript.Turn.{Finished}
 use Rattle.vfs_model.specs.Tree.{Tree, opening_tree}
-use Rattle.dfs_run.specs.LineReader.{ReaderState, ahead}
+use Rattle.dfs_input.specs.LineReader.{ReaderState, ahead}
 
 -- the entry of a step of the first session
 abbrev pub first_session : Mark → Entry

@@ -4,7 +4,7 @@ use Rattle.std.specs.Io.KnownBytes.{Appends}
 use Rattle.vfs_base.specs.declared.entry.Entry.{Entry}
 use Rattle.vfs_model.specs.Tree.{Tree}
 use Rattle.vfs_outside.specs.Causes.{Rose}
-use Rattle.dfs_run.specs.LineReader.{ReaderState, ahead, BeginsBad, StopsInLine}
+use Rattle.dfs_input.specs.LineReader.{ReaderState, ahead, BeginsBad, StopsInLine}
 use Rattle.dfs_run.specs.declared.report.FaultNote.{FaultNote}
 use Rattle.dfs_run.specs.declared.report.FaultNote.TheVariants as fault
 use Rattle.dfs_run.specs.Serving.{Moment, Serves, Posts, RunsLine, GivesUp, BreaksOff, WhereTold}

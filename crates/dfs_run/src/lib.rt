@@ -8,7 +8,6 @@
 
 mod folder;
 mod forms;
-mod line_reader;
 mod mode;
 mod pieces;
 mod report;

@@ -9,12 +9,12 @@ ghost use Rattle.dfs_run.specs.Headline.{EndsByForm, is_closed, ShowsFront};
 ghost use Rattle.dfs_run.specs.Report.{status_of};
 ghost use Rattle.dfs_run.specs.Stopping.{HasReason};
 
-use crate::line_reader::LineReader;
 use crate::report::{FaultNote, Report};
 use crate::serving::serve_lines;
 use crate::shell::Shell;
 use crate::shown::print_schedule;
 use crate::writing::write_all;
+use dfs_input::LineReader;
 use std::alloc::Global;
 use vfs_base::List;
 use vfs_outside::{Sink, Source};

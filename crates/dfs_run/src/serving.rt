@@ -4,14 +4,14 @@ ghost use Rattle.std.specs.Prelude.{◌≡◌, ◌≤◌, ◌<◌, ◌+◌, IfOk
 ghost use Rattle.std.specs.Bool.{OnFalse, OnTrue};
 ghost use Rattle.std.specs.Io.KnownBytes.{IsAtEnd};
 ghost use Rattle.vfs_outside.specs.Causes.{StillTells};
-ghost use Rattle.dfs_run.specs.LineReader.{ahead, ReadsLine, ReadsEnd};
+ghost use Rattle.dfs_input.specs.LineReader.{ahead, ReadsLine, ReadsEnd};
 ghost use Rattle.dfs_run.specs.Serving.{moment_of, KnowsEnd, Serves};
 ghost use Rattle.dfs_run.specs.Stopping.{ServesAll, Stops, StopsAtLine, StopsPosting, WritesBlock, HasReason};
 
-use crate::line_reader::{LineReader, ReadStop};
 use crate::report::FaultNote;
 use crate::shell::Shell;
 use crate::writing::write_all;
+use dfs_input::{LineReader, ReadStop};
 use std::alloc::Global;
 use vfs_base::Bytes;
 use vfs_outside::{Sink, Source};

@@ -1,8 +1,8 @@
 use Rattle.std.proofs.Common.{◌≡◌, ◌+◌, ◌-◌, [], length, true, false}
 use Rattle.std.specs.Io.KnownBytes.{IsAtEnd}
 use Rattle.vfs_outside.specs.Causes.{StillTells}
-use Rattle.dfs_run.proofs.LineReaderLemmas.{Holding}
-use Rattle.dfs_run.proofs.line_reader.LineReader.next_line.Given as goal
+use Rattle.dfs_input.proofs.LineReaderLemmas.{Holding}
+use Rattle.dfs_input.proofs.line_reader.LineReader.next_line.Given as goal
 
 abbrev pub invariant-loop-held : goal.invariant-loop-held
 invariant-loop-held g l = record {

@@ -1,8 +1,8 @@
 use Rattle.std.proofs.Common.{rules, arith, ap}
 use Rattle.std.proofs.lemmas.Result.{err_from_is_err_and}
-use Rattle.dfs_run.specs.LineReader.{ReaderState}
-use Rattle.dfs_run.proofs.LineReaderLemmas.{Holding-filled, Holding-more, HoldsAll-some, ReadsLine-feed, StopsReading-bad, line-last, StopsInLine-failed}
-use Rattle.dfs_run.proofs.line_reader.LineReader.next_line.Goals as goal
+use Rattle.dfs_input.specs.LineReader.{ReaderState}
+use Rattle.dfs_input.proofs.LineReaderLemmas.{Holding-filled, Holding-more, HoldsAll-some, ReadsLine-feed, StopsReading-bad, line-last, StopsInLine-failed}
+use Rattle.dfs_input.proofs.line_reader.LineReader.next_line.Goals as goal
 
 pub returns-in_err-fill-clause-stop : goal.returns-in_err-fill-clause-stop
 returns-in_err-fill-clause-stop g c =

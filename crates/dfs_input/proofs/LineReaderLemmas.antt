@@ -6,10 +6,10 @@ use Rattle.std.proofs.lemmas.List.Elements.{All-append}
 use Rattle.std.proofs.KnownBytes.{Consumes-kept, Consumes-trans, prepend_known-nil}
 use Rattle.std.specs.Io.KnownBytes.{Consumes, Keeps, prepend_known}
 use Rattle.vfs_model.specs.Script.{raw_lines, without_return, is_bad_line, line_text}
-use Rattle.dfs_run.specs.declared.line_reader.ReadStop.{ReadStop}
-use Rattle.dfs_run.specs.declared.line_reader.ReadStop.TheVariants.{NoMemory, BadLine, Failed}
-use Rattle.dfs_run.specs.LineReader.{HasNoFeed, Fills, HoldsAll, EndsLine, LastLine, ahead, TakesLine, ReadsLine, StopsInLine, StopsReading, StopsPastForm, StopsPastSize, StopsAtBadLine, StopsAtLastLine, ReaderState, BeginsBad, is_past_form}
-use Rattle.dfs_run.proofs.ScriptLemmas.{BeginsBad-past, BeginsBad-feed, BeginsBad-unended, raw_lines-feed, raw_lines-unended, is_ended-feed, whole_lines-unended, line_text-feed, line_text-unended, without_return-length}
+use Rattle.dfs_input.specs.declared.line_reader.ReadStop.{ReadStop}
+use Rattle.dfs_input.specs.declared.line_reader.ReadStop.TheVariants.{NoMemory, BadLine, Failed}
+use Rattle.dfs_input.specs.LineReader.{HasNoFeed, Fills, HoldsAll, EndsLine, LastLine, ahead, TakesLine, ReadsLine, StopsInLine, StopsReading, StopsPastForm, StopsPastSize, StopsAtBadLine, StopsAtLastLine, ReaderState, BeginsBad, is_past_form}
+use Rattle.dfs_input.proofs.ScriptLemmas.{BeginsBad-past, BeginsBad-feed, BeginsBad-unended, raw_lines-feed, raw_lines-unended, is_ended-feed, whole_lines-unended, line_text-feed, line_text-unended, without_return-length}
 
 -- fewer bytes of a part of a list
 pub drop-slice_range : (xs : List ℕ) (from to count : ℕ) → from + count ≤ to → drop count (slice_range xs from to) ≡ slice_range xs (from + count) to

@@ -1,7 +1,7 @@
 use Rattle.std.proofs.Common.{arith, rules}
 use Rattle.std.proofs.lemmas.Result.{err_from_is_err_and}
-use Rattle.dfs_run.proofs.LineReaderLemmas.{BeginsBad-long, StopsAtLastLine-far}
-use Rattle.dfs_run.proofs.line_reader.LineReader.last_line.Goals as goal
+use Rattle.dfs_input.proofs.LineReaderLemmas.{BeginsBad-long, StopsAtLastLine-far}
+use Rattle.dfs_input.proofs.line_reader.LineReader.last_line.Goals as goal
 
 pub returns-then-len-gt-LINE_MAX-clause-stop : goal.returns-then-len-gt-LINE_MAX-clause-stop
 returns-then-len-gt-LINE_MAX-clause-stop c = BeginsBad-long c.args.self.now.size c.args.held c.requires.unended (omega arith)

@@ -5,7 +5,7 @@ use Rattle.std.proofs.lemmas.Bool.{both_ways, or_cases, or_left, or_right, cases
 use Rattle.std.proofs.lemmas.List.Elements.{All-head, All-tail}
 use Rattle.std.proofs.Math.Seq.{get_or-append_seam, take-append_seam}
 use Rattle.vfs_model.specs.Script.{raw_lines, onto_first, last_byte, but_last, without_return, is_ended, line_text, whole_lines, is_bad_line, first_bad_from}
-use Rattle.dfs_run.specs.LineReader.{HasNoFeed, BeginsBad, is_past_form}
+use Rattle.dfs_input.specs.LineReader.{HasNoFeed, BeginsBad, is_past_form}
 
 cases_lines : (lines : List (List ℕ)) → (lines ≡ []) ⊎ ((line : List ℕ) × (rest : List (List ℕ)) × (lines ≡ line ∷ rest))
 cases_lines [] = inl refl

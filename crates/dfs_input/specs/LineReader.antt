@@ -4,8 +4,8 @@ use Rattle.std.specs.List.{All}
 use Rattle.std.specs.Io.KnownBytes.{prepend_known, Consumes, Keeps, IsAtEnd}
 use Rattle.vfs_model.specs.Script.{raw_lines, without_return, is_ended, line_text, whole_lines, is_bad_line}
 use Rattle.vfs_outside.specs.Causes.{Rose}
-use Rattle.dfs_run.specs.declared.line_reader.ReadStop.{ReadStop}
-use Rattle.dfs_run.specs.declared.line_reader.ReadStop.TheVariants.{NoMemory, BadLine, Failed}
+use Rattle.dfs_input.specs.declared.line_reader.ReadStop.{ReadStop}
+use Rattle.dfs_input.specs.declared.line_reader.ReadStop.TheVariants.{NoMemory, BadLine, Failed}
 
 -- the lines read whole so far, the bytes of these with their ends, the bytes that came and belong to later lines, and whether the end was seen
 pub record ReaderState : Type 0 where

@@ -1,6 +1,6 @@
 use Rattle.std.proofs.Common.{◌+◌, ◌≤◌, refl, arith}
-use Rattle.dfs_run.proofs.LineReaderLemmas.{drop-slice_range, length-slice_range}
-use Rattle.dfs_run.proofs.line_reader.LineReader.consume.Goals as goal
+use Rattle.dfs_input.proofs.LineReaderLemmas.{drop-slice_range, length-slice_range}
+use Rattle.dfs_input.proofs.line_reader.LineReader.consume.Goals as goal
 
 pub returns : goal.returns
 returns c =

@@ -4,7 +4,7 @@ ghost use Rattle.std.specs.Prelude.{◌≡◌, ◌+◌, ◌++◌, ◌<◌, ◌�
 ghost use Rattle.std.specs.Io.KnownBytes.{Keeps, IsAtEnd};
 ghost use Rattle.vfs_outside.specs.Causes.{HasCause, StillTells};
 ghost use Rattle.vfs_model.specs.Script.{without_return};
-ghost use Rattle.dfs_run.specs.LineReader.{is_past_form, StopsPastForm, HasNoFeed, SplitsAtFeed};
+ghost use Rattle.dfs_input.specs.LineReader.{is_past_form, StopsPastForm, HasNoFeed, SplitsAtFeed};
 
 use memchr::memchr;
 use std::alloc::Global;
@@ -28,7 +28,7 @@ pub enum ReadStop {
 }
 
 impl From<NoMemory> for ReadStop {
-    ghost use Rattle.dfs_run.specs.declared.line_reader.ReadStop.TheVariants.{NoMemory as WantsMemory};
+    ghost use Rattle.dfs_input.specs.declared.line_reader.ReadStop.TheVariants.{NoMemory as WantsMemory};
 
     ghost from_gives = { λ _ stop. stop ≡ WantsMemory };
 
@@ -38,7 +38,7 @@ impl From<NoMemory> for ReadStop {
 }
 
 impl From<Failed> for ReadStop {
-    ghost use Rattle.dfs_run.specs.declared.line_reader.ReadStop.TheVariants.{Failed as SourceFailed};
+    ghost use Rattle.dfs_input.specs.declared.line_reader.ReadStop.TheVariants.{Failed as SourceFailed};
 
     ghost from_gives = { λ _ stop. stop ≡ SourceFailed };
 
@@ -48,7 +48,7 @@ impl From<Failed> for ReadStop {
 }
 
 // As many bytes as one call of the source is asked for.
-const CHUNK: usize = 4096;
+pub(crate) const CHUNK: usize = 4096;
 
 /// Reads lines from a source. It asks the source for bytes only when it holds none that belong to
 /// the next line, so a line is given as soon as its line feed was read, and it asks no more once it
@@ -70,7 +70,7 @@ pub struct LineReader {
 
 impl Model for LineReader {
     ghost use Rattle.std.specs.Prelude.{◌≤◌, slice_range};
-    ghost use Rattle.dfs_run.specs.LineReader.{ReaderState};
+    ghost use Rattle.dfs_input.specs.LineReader.{ReaderState};
 
     ghost Value = { ReaderState };
 
@@ -86,8 +86,8 @@ impl Model for LineReader {
 }
 
 impl LineReader {
-    ghost use Rattle.dfs_run.specs.LineReader.{ReadsLine, ReadsEnd, StopsReading, HasReadCause};
-    ghost use Rattle.dfs_run.specs.LineReader.{Fills, HoldsAll, EndsLine, LastLine, StopsPastSize, StopsAtBadLine, StopsAtLastLine};
+    ghost use Rattle.dfs_input.specs.LineReader.{ReadsLine, ReadsEnd, StopsReading, HasReadCause};
+    ghost use Rattle.dfs_input.specs.LineReader.{Fills, HoldsAll, EndsLine, LastLine, StopsPastSize, StopsAtBadLine, StopsAtLastLine};
 
     /// A reader at the first line of an input.
     pub fn new() -> LineReader

@@ -1,8 +1,8 @@
 use Rattle.std.proofs.Common.{◌+◌, ◌++◌, [], ◌∷◌, take, drop, ap, arith, rules, append-nil, length-append, sym}
 use Rattle.std.proofs.lemmas.Result.{err_from_is_err_and}
-use Rattle.dfs_run.specs.LineReader.{SplitsAtFeed, ReaderState}
-use Rattle.dfs_run.proofs.LineReaderLemmas.{StopsAtBadLine-past, StopsAtBadLine-far, is_bad_line-feed}
-use Rattle.dfs_run.proofs.line_reader.LineReader.take_part.Goals as goal
+use Rattle.dfs_input.specs.LineReader.{SplitsAtFeed, ReaderState}
+use Rattle.dfs_input.proofs.LineReaderLemmas.{StopsAtBadLine-past, StopsAtBadLine-far, is_bad_line-feed}
+use Rattle.dfs_input.proofs.line_reader.LineReader.take_part.Goals as goal
 
 pub returns-in_err-hold-in-Some-clause-stop : goal.returns-in_err-hold-in-Some-clause-stop
 returns-in_err-hold-in-Some-clause-stop c =
