@@ -1,0 +1,8 @@
+pub mod Calls
+pub mod Places
+pub mod Playing
+pub mod PostedLines
+pub mod RomLists
+pub mod SessionTexts
+pub mod Staging
+pub mod TakenEntries

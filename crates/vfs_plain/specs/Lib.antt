@@ -1,0 +1,4 @@
+pub mod PlainText
+pub mod ScriptSessions
+pub mod SessionSteps
+pub mod Stages
