@@ -6,6 +6,12 @@
 #[cfg(test)]
 mod paths;
 #[cfg(test)]
+mod plain_play;
+#[cfg(test)]
+mod plain_schedules;
+#[cfg(test)]
+mod plain_scripts;
+#[cfg(test)]
 mod shell;
 #[cfg(test)]
 mod streams;
