@@ -139,22 +139,22 @@ fn bare_deck(alloc: Global, manifests: &[&str]) -> Result<Deck, Fail> {
 }
 
 // A character device that does not tell its input.
-fn untold(alloc: Global) -> Result<Describe, Fail> {
+fn untold(alloc: Global) -> Result<List<CharsShape>, Fail> {
     let mut chars = List::new(alloc);
     chars.push(CharsShape {
         name: name(alloc, "uart0")?,
         input: None,
     })?;
-    Ok(Describe {
-        volumes: List::new(alloc),
-        chars,
-    })
+    Ok(chars)
 }
 
 #[test]
 fn a_rom_out_of_form_comes_before_all_else(rt: HostRuntime) -> Result<(), Fail> {
     let alloc = rt.alloc();
-    let describe = untold(alloc)?;
+    let describe = Describe {
+        volumes: List::new(alloc),
+        chars: untold(alloc)?,
+    };
     let deck = bare_deck(alloc, &["d /x\n", "f /x/y 00\n"])?;
     let found = plain_run(alloc, &deck, &describe, &[]);
     assert_eq!(rt; found.err(), Some(PlainFault::BadRom { index: 1 }));
