@@ -7,7 +7,7 @@ use Rattle.vfs_base.specs.declared.entry.Entry.{Entry}
 use Rattle.vfs_model.specs.Schedule.{schedule_line}
 use Rattle.dfs_run.specs.declared.report.FaultNote.{FaultNote}
 use Rattle.dfs_run.specs.declared.report.FaultNote.TheVariants as fault
-use Rattle.vfs_model.specs.Tree.{Tree, opening_tree}
+use Rattle.dfs_run.specs.PlainTree.{Tree, opening_tree}
 use Rattle.dfs_input.specs.LineReader.{ReaderState}
 use Rattle.dfs_run.specs.Serving.{Moment, moment_of, opening_moment, Serves, Posts, shutdown}
 use Rattle.dfs_run.specs.Stopping.{ServesAll, Stops, HasReason}

@@ -8,8 +8,8 @@ use Rattle.std.proofs.lemmas.List.{take-append-le}
 use Rattle.vfs_base.specs.declared.entry.Entry.{Entry}
 use Rattle.vfs_model.specs.Schedule.{schedule_line}
 use Rattle.vfs_model.specs.Script.{raw_lines, line_text, whole_lines, first_bad_from, first_bad_line, input_lines}
-use Rattle.vfs_model.specs.FirstTranscript.{shown_by, shell_shown}
-use Rattle.vfs_model.specs.Tree.{Tree, opening_tree}
+use Rattle.dfs_run.specs.FirstTranscript.{shown_by, shell_shown}
+use Rattle.dfs_run.specs.PlainTree.{Tree, opening_tree}
 use Rattle.dfs_run.specs.Serving.{Moment, opening_moment, WhereTold, ComeFirst, Serves, ShowsText, Posts, BreaksOff, shutdown}
 use Rattle.dfs_run.specs.Stopping.{MeetsBadLine, MeetsReadFault}
 use Rattle.dfs_input.specs.LineReader.{BeginsBad}

@@ -4,9 +4,9 @@ use Rattle.std.specs.Io.KnownBytes.{Appends, Consumes, IsAtEnd}
 use Rattle.std.proofs.KnownBytes.{Appends-nil}
 use Rattle.vfs_base.specs.declared.entry.Entry.{Entry}
 use Rattle.vfs_model.specs.Script.{raw_lines, line_text, whole_lines, first_bad_from}
-use Rattle.vfs_model.specs.FirstTranscript.{put_before, shown_by, shown_after, take_line}
-use Rattle.vfs_model.specs.FirstTranscript.Turn.{Finished}
-use Rattle.vfs_model.specs.Tree.{Tree}
+use Rattle.dfs_run.specs.FirstTranscript.{put_before, shown_by, shown_after, take_line}
+use Rattle.dfs_run.specs.FirstTranscript.Turn.{Finished}
+use Rattle.dfs_run.specs.PlainTree.{Tree}
 use Rattle.dfs_run.specs.declared.report.FaultNote.{FaultNote}
 use Rattle.dfs_run.specs.declared.report.FaultNote.TheVariants as fault
 use Rattle.dfs_input.specs.LineReader.{ReaderState, ahead, ReadsLine, TakesLine}

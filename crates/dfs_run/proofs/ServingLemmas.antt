@@ -5,7 +5,7 @@ use Rattle.std.specs.Io.KnownBytes.{Appends}
 use Rattle.std.proofs.KnownBytes.{Appends-trans, Appends-nil}
 use Rattle.vfs_base.specs.declared.entry.Entry.{Entry}
 use Rattle.vfs_model.specs.Script.{raw_lines, line_text, whole_lines}
-use Rattle.vfs_model.specs.FirstTranscript.{Shown, put_before, shown_by, shown_at_end}
+use Rattle.dfs_run.specs.FirstTranscript.{Shown, put_before, shown_by, shown_at_end}
 use Rattle.std.proofs.Math.Seq.{take-append-add}
 use Rattle.dfs_run.specs.declared.report.FaultNote.{FaultNote}
 use Rattle.dfs_run.specs.declared.report.FaultNote.TheVariants as fault

@@ -4,13 +4,14 @@ use Rattle.vfs_base.specs.Path.{Path}
 use Rattle.vfs_base.specs.declared.entry.Entry.{Entry}
 use Rattle.vfs_base.specs.declared.entry.Mark.{Mark}
 use Rattle.vfs_base.specs.declared.reply.Reply.{Reply}
-use Rattle.vfs_model.specs.Line.{form_of}
-use Rattle.vfs_model.specs.Shown.{block, bad_line_text, reply_text}
-use Rattle.vfs_model.specs.FirstTranscript.{one_step, turn_of, take_line, shown_by, shown_after}
-use Rattle.vfs_model.specs.FirstTranscript.Turn.{Finished}
-use Rattle.vfs_model.specs.Tree.{Tree, Outcome}
-use Rattle.vfs_model.specs.declared.form.LineForm.{LineForm}
-use Rattle.vfs_model.specs.declared.form.LineForm.TheVariants as form
+use Rattle.dfs_run.specs.LineForms.{form_of}
+use Rattle.vfs_model.specs.Shown.{bad_line_text}
+use Rattle.dfs_run.specs.ShownLines.{block, reply_text}
+use Rattle.dfs_run.specs.FirstTranscript.{one_step, turn_of, take_line, shown_by, shown_after}
+use Rattle.dfs_run.specs.FirstTranscript.Turn.{Finished}
+use Rattle.dfs_run.specs.PlainTree.{Tree, Outcome}
+use Rattle.dfs_run.specs.declared.form.LineForm.{LineForm}
+use Rattle.dfs_run.specs.declared.form.LineForm.TheVariants as form
 use Rattle.dfs_run.specs.Serving.{first_session, RunsLine, GivesUp}
 
 -- a command of one step is finished by the entry of that step

@@ -7,7 +7,7 @@ use Rattle.std.specs.Map.{remove_entry, set_value}
 use Rattle.vfs_base.specs.Path.{Path, path_cmp}
 use Rattle.vfs_base.specs.PathLaws.{path_cmp_total}
 use Rattle.vfs_model.specs.NormalPath.{parent_of}
-use Rattle.vfs_model.specs.Tree.{Tree, is_folder, walks_from, with_folder}
+use Rattle.dfs_run.specs.PlainTree.{Tree, is_folder, walks_from, with_folder}
 
 -- a walk to an entry goes through its parent
 walks_from-append : (tree : Tree) (front names : Path) (name : List ℕ)

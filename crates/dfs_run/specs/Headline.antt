@@ -2,9 +2,9 @@
 use Rattle.std.specs.Prelude.{◌≡◌, ℕ, ◌-◌, ◌==◌, Bool, true, false, not, Option, Some, is_some, unwrap_or, option_map, List, [], ◌∷◌, ◌++◌, take, codes, ◌⊎◌, if◌then◌else◌}
 use Rattle.std.specs.Io.KnownBytes.{Appends}
 use Rattle.vfs_base.specs.declared.entry.Entry.{Entry}
-use Rattle.vfs_model.specs.Line.{same_text}
+use Rattle.vfs_model.specs.PlainName.{same_text}
 use Rattle.vfs_model.specs.Script.{input_lines, whole_lines, first_bad_line}
-use Rattle.vfs_model.specs.FirstTranscript.{Shown, shell_shown, transcript_text}
+use Rattle.dfs_run.specs.FirstTranscript.{Shown, shell_shown, transcript_text}
 
 -- All lines of the input were run, and what was written behind what stood there is their transcript, the
 -- schedule's line at its end.

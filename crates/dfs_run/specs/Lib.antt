@@ -1,6 +1,10 @@
 pub mod Ending
+pub mod FirstTranscript
 pub mod Headline
+pub mod LineForms
+pub mod PlainTree
 pub mod Report
 pub mod Serving
+pub mod ShownLines
 pub mod Stopping
 pub mod Writing

@@ -7,9 +7,9 @@ use Rattle.vfs_base.specs.declared.entry.Mark.{Mark}
 use Rattle.vfs_base.specs.declared.entry.Mark.TheVariants as mark
 use Rattle.vfs_base.specs.declared.entry.Who.TheVariants as who
 use Rattle.vfs_model.specs.Script.{raw_lines, line_text, whole_lines, first_bad_from}
-use Rattle.vfs_model.specs.FirstTranscript.{put_before, shown_by, shown_at_end, take_line}
-use Rattle.vfs_model.specs.FirstTranscript.Turn.{Finished}
-use Rattle.vfs_model.specs.Tree.{Tree, opening_tree}
+use Rattle.dfs_run.specs.FirstTranscript.{put_before, shown_by, shown_at_end, take_line}
+use Rattle.dfs_run.specs.FirstTranscript.Turn.{Finished}
+use Rattle.dfs_run.specs.PlainTree.{Tree, opening_tree}
 use Rattle.dfs_input.specs.LineReader.{ReaderState, ahead}
 
 -- the entry of a step of the first session

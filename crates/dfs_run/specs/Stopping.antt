@@ -2,7 +2,7 @@
 use Rattle.std.specs.Prelude.{◌≡◌, ℕ, ◌+◌, ◌≤◌, true, false, Option, IfSome, List, [], length, take, ⊤}
 use Rattle.std.specs.Io.KnownBytes.{Appends}
 use Rattle.vfs_base.specs.declared.entry.Entry.{Entry}
-use Rattle.vfs_model.specs.Tree.{Tree}
+use Rattle.dfs_run.specs.PlainTree.{Tree}
 use Rattle.vfs_outside.specs.Causes.{Rose}
 use Rattle.dfs_input.specs.LineReader.{ReaderState, ahead, BeginsBad, StopsInLine}
 use Rattle.dfs_run.specs.declared.report.FaultNote.{FaultNote}

@@ -2,7 +2,7 @@ ghost use Rattle.std.specs.Prelude.{◌≡◌, [], map, IfOk, OnOk, OnErr};
 ghost use Rattle.std.specs.BTreeSet.{insert_key};
 ghost use Rattle.std.specs.Cmp.Lexicographic.{slice_cmp};
 ghost use Rattle.std.specs.Ordering.{nat_cmp};
-ghost use Rattle.vfs_model.specs.Tree.{folder_entry};
+ghost use Rattle.dfs_run.specs.PlainTree.{folder_entry};
 
 use std::alloc::Global;
 use std::collections::BTreeSet;

@@ -3,12 +3,13 @@
 ghost use Rattle.std.specs.Prelude.{◌≡◌, IfOk, OnOk, Some, None, if◌then◌else◌};
 ghost use Rattle.std.specs.List.{list_all};
 ghost use Rattle.vfs_base.specs.Name.{is_name};
-ghost use Rattle.vfs_model.specs.Line.{form_of, form_of_word, is_plain_byte, is_plain_name, is_printed_path, path_of};
+ghost use Rattle.vfs_model.specs.PlainName.{is_plain_name};
+ghost use Rattle.dfs_run.specs.LineForms.{form_of, form_of_word, is_plain_byte, is_printed_path, path_of};
 
 use crate::pieces::pieces;
 use std::alloc::Global;
 use vfs_base::{Bytes, List, Name, NoMemory, PATH_MAX, Path};
-use vfs_model::LineForm;
+use crate::form::LineForm;
 
 /// What the line asks for.
 pub fn read_line(alloc: Global, line: &[u8]) -> Result<LineForm, NoMemory>

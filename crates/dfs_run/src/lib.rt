@@ -7,6 +7,7 @@
 #![tactic(auto)]
 
 mod folder;
+mod form;
 mod forms;
 mod mode;
 mod pieces;

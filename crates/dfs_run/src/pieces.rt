@@ -1,7 +1,7 @@
 //! Pieces of a text between separators.
 
 ghost use Rattle.std.specs.Prelude.{◌≡◌, ℕ, List, OnOk, IfOk, [], ◌∷◌, ◌++◌};
-ghost use Rattle.vfs_model.specs.Line.{pieces as pieces_of, pieces_from, piece_of};
+ghost use Rattle.dfs_run.specs.LineForms.{pieces as pieces_of, pieces_from, piece_of};
 
 use std::alloc::Global;
 use std::mem;

@@ -3,7 +3,7 @@
 ghost use Rattle.std.specs.Prelude.{◌≡◌, ◌∷◌, [], ◌++◌, IfNone, IfSome};
 ghost use Rattle.std.specs.Io.KnownBytes.{IsAtEnd};
 ghost use Rattle.vfs_outside.specs.Causes.{Rose};
-ghost use Rattle.vfs_model.specs.Tree.{opening_tree};
+ghost use Rattle.dfs_run.specs.PlainTree.{opening_tree};
 ghost use Rattle.dfs_run.specs.Ending.{ClosesSchedule, Ends, StopsWith};
 ghost use Rattle.dfs_run.specs.Headline.{EndsByForm, is_closed, ShowsFront};
 ghost use Rattle.dfs_run.specs.Report.{status_of};

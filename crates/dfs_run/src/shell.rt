@@ -2,10 +2,10 @@
 
 ghost use Rattle.std.specs.Prelude.{◌≡◌, List, [], ◌∷◌, ◌++◌, IfOk, OnOk, OnErr, Some};
 ghost use Rattle.vfs_base.specs.declared.entry.Entry.{Entry};
-ghost use Rattle.vfs_model.specs.Shown.{block, reply_text};
-ghost use Rattle.vfs_model.specs.FirstTranscript.{turn_of};
-ghost use Rattle.vfs_model.specs.FirstTranscript.Turn.{Finished};
-ghost use Rattle.vfs_model.specs.Tree.{opening_tree};
+ghost use Rattle.dfs_run.specs.ShownLines.{block, reply_text};
+ghost use Rattle.dfs_run.specs.FirstTranscript.{turn_of};
+ghost use Rattle.dfs_run.specs.FirstTranscript.Turn.{Finished};
+ghost use Rattle.dfs_run.specs.PlainTree.{opening_tree};
 ghost use Rattle.dfs_run.specs.Serving.{GivesUp, RunsLine, shutdown, steps_of};
 
 use crate::forms::read_line;
@@ -13,7 +13,7 @@ use crate::shown::{bad_line_block, reply_block, start_block};
 use crate::tree::Tree;
 use std::alloc::Global;
 use vfs_base::{Bytes, Entry, List, Mark, NoMemory, Path, Reply, SessionId, Who};
-use vfs_model::LineForm;
+use crate::form::LineForm;
 
 /// A shell's tree, and the steps that were taken on it.
 #[derive(Drop)]

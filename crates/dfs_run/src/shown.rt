@@ -3,7 +3,8 @@
 ghost use Rattle.std.specs.Prelude.{◌≡◌, ℕ, IfOk, OnOk, [], ◌++◌, ◌∷◌, codes};
 ghost use Rattle.std.specs.List.{flat_map};
 ghost use Rattle.vfs_model.specs.Schedule.{schedule_line, entry_word};
-ghost use Rattle.vfs_model.specs.Shown.{bad_line_text, block, entry_line, error_text, listing_text, padding, reply_text};
+ghost use Rattle.vfs_model.specs.Shown.{bad_line_text, padding};
+ghost use Rattle.dfs_run.specs.ShownLines.{block, entry_line, error_text, listing_text, reply_text};
 
 use std::alloc::Global;
 use vfs_base::{

@@ -1,6 +1,6 @@
 ghost use Rattle.std.specs.Prelude.{◌≡◌, true, false, [], IfOk, OnOk, OnErr, IfSome, is_some};
 ghost use Rattle.vfs_model.specs.NormalPath.{parent_of};
-ghost use Rattle.vfs_model.specs.Tree.{opening_tree, is_folder, walks_from, last_name, with_name, with_folder, mkdir_step, list_step, under_mark};
+ghost use Rattle.dfs_run.specs.PlainTree.{opening_tree, is_folder, walks_from, last_name, with_name, with_folder, mkdir_step, list_step, under_mark};
 
 use crate::folder::Folder;
 use std::alloc::Global;
@@ -18,7 +18,7 @@ pub struct Tree {
 
 impl Model for Tree {
     ghost use Rattle.std.specs.Prelude.{◌≡◌, true, []};
-    ghost use Rattle.vfs_model.specs.Tree.{Tree, is_folder};
+    ghost use Rattle.dfs_run.specs.PlainTree.{Tree, is_folder};
 
     ghost Value = { Tree };
 

@@ -12,7 +12,7 @@ use Rattle.hex.proofs.HexLemmas.{decode_of-encode_lower, decode_pairs-encode_wit
 use Rattle.vfs_base.specs.Name.{slash, is_name, is_name_byte}
 use Rattle.vfs_base.specs.Path.{Path, printed, slashed}
 use Rattle.vfs_base.specs.declared.limits.TheConstants.{PATH_MAX}
-use Rattle.vfs_model.specs.Line.{is_plain_name}
+use Rattle.vfs_model.specs.PlainName.{is_plain_name}
 use Rattle.vfs_model.specs.Manifest.{rom_path, rom_bytes, is_space, behind_space}
 use Rattle.vfs_model.specs.NormalPath.{parts_of, is_slash}
 use Rattle.vfs_model.specs.Rom.{IsRomPath, is_rom_byte, is_rom_name}

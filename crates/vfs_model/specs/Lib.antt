@@ -17,13 +17,11 @@ pub mod FileCommands
 pub mod FileLife
 pub mod FileMoves
 pub mod FileStep
-pub mod FirstTranscript
 pub mod FolderCommands
 pub mod Holders
 pub mod Homes
 pub mod IoTotals
 pub mod Laws
-pub mod Line
 pub mod Lookup
 pub mod Manifest
 pub mod MappingCommands
@@ -39,6 +37,7 @@ pub mod Numeral
 pub mod OpenCommands
 pub mod OpenFiles
 pub mod OpenStep
+pub mod PlainName
 pub mod ReferenceSteps
 pub mod RenameStep
 pub mod Rom
@@ -56,7 +55,6 @@ pub mod Talk
 pub mod TextCommands
 pub mod Transcript
 pub mod TranscriptLaws
-pub mod Tree
 pub mod Turns
 pub mod UmountSteps
 pub mod Words

@@ -9,7 +9,7 @@ use Rattle.hex.specs.Hex.{IsBytes}
 use Rattle.vfs_base.specs.Name.{is_name}
 use Rattle.vfs_base.specs.Path.{Path, printed, path_cmp}
 use Rattle.vfs_base.specs.declared.limits.TheConstants.{NODES, PATH_MAX}
-use Rattle.vfs_model.specs.Line.{is_plain_name}
+use Rattle.vfs_model.specs.PlainName.{is_plain_name}
 use Rattle.vfs_model.specs.NormalPath.{parent_of}
 
 -- what stands at the paths of a rom, in their order: a file has its bytes, and a folder None

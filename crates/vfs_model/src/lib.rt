@@ -5,7 +5,6 @@
 #![tactic(auto)]
 
 mod cache;
-mod form;
 pub mod laws;
 mod namespace;
 mod script_form;
@@ -13,7 +12,6 @@ mod shell_state;
 mod world;
 
 pub use cache::{CacheState, DeviceCall, Resident};
-pub use form::LineForm;
 pub use namespace::{
     Backing, DeviceState, End, KeptNode, LiveFile, Mount, Namespace, Origin, Reference, Role,
     RomImage, RomNode, RowChange, Tree, VolumeState,

@@ -1,7 +1,7 @@
 use Rattle.std.proofs.Common.{◌≡◌, ◌++◌}
 use Rattle.std.proofs.Common.{drop}
-use Rattle.vfs_model.specs.Line.{pieces_from}
-use Rattle.vfs_model.specs.Line.{pieces as pieces_of}
+use Rattle.dfs_run.specs.LineForms.{pieces_from}
+use Rattle.dfs_run.specs.LineForms.{pieces as pieces_of}
 use Rattle.dfs_run.proofs.pieces.pieces.Given as goal
 
 abbrev pub invariant-loop-byte : goal.invariant-loop-byte

@@ -1,6 +1,6 @@
 use Rattle.std.proofs.Common.{◌≡◌, ◌++◌, drop}
 use Rattle.std.specs.List.{flat_map}
-use Rattle.vfs_model.specs.Shown.{entry_line}
+use Rattle.dfs_run.specs.ShownLines.{entry_line}
 use Rattle.dfs_run.proofs.shown.push_entries.Given as goal
 
 abbrev pub invariant-loop-entry : goal.invariant-loop-entry

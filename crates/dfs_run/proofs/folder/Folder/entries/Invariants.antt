@@ -1,5 +1,5 @@
 use Rattle.std.proofs.Common.{◌≡◌, ◌++◌, map}
-use Rattle.vfs_model.specs.Tree.{folder_entry}
+use Rattle.dfs_run.specs.PlainTree.{folder_entry}
 use Rattle.dfs_run.proofs.folder.Folder.entries.Given as goal
 
 abbrev pub invariant-loop-name : goal.invariant-loop-name

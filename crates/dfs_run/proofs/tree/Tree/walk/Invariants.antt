@@ -1,5 +1,5 @@
 use Rattle.std.proofs.Common.{◌≡◌, ◌++◌, [], drop}
-use Rattle.vfs_model.specs.Tree.{walks_from}
+use Rattle.dfs_run.specs.PlainTree.{walks_from}
 use Rattle.dfs_run.proofs.tree.Tree.walk.Given as goal
 
 abbrev pub invariant-loop-name : goal.invariant-loop-name

@@ -1,11 +1,11 @@
 -- What a line of the shell asks for.
 use Rattle.std.specs.Prelude.{ℕ, ◌==◌, Bool, not, ◌&&◌, nat_le, Option, Some, None, List, [], ◌∷◌, ◌++◌, length, codes, if◌then◌else◌}
 use Rattle.std.specs.List.{list_all}
-use Rattle.std.specs.Cmp.Lexicographic.{pointwise}
 use Rattle.vfs_base.specs.Path.{Path, printed}
 use Rattle.vfs_base.specs.Name.{is_name}
-use Rattle.vfs_model.specs.declared.form.LineForm.{LineForm}
-use Rattle.vfs_model.specs.declared.form.LineForm.TheVariants as form
+use Rattle.vfs_model.specs.PlainName.{is_plain_name, same_text}
+use Rattle.dfs_run.specs.declared.form.LineForm.{LineForm}
+use Rattle.dfs_run.specs.declared.form.LineForm.TheVariants as form
 
 -- the piece that is held, unless it is empty
 abbrev pub piece_of : List ℕ → List (List ℕ)
@@ -22,14 +22,6 @@ pieces_from separator held (byte ∷ bytes) =
 -- the pieces between separators that are not empty
 abbrev pub pieces : ℕ → List ℕ → List (List ℕ)
 pieces separator bytes = pieces_from separator [] bytes
-
--- the two texts are the same
-abbrev pub same_text : List ℕ → List ℕ → Bool
-same_text a b = pointwise (λ x y. x == y) a b
-
--- neither `.` nor `..`
-abbrev pub is_plain_name : List ℕ → Bool
-is_plain_name name = not (same_text name (codes ".")) && not (same_text name (codes ".."))
 
 -- a byte that a word may have: no zero, no tab, no space, no quote
 abbrev pub is_plain_byte : ℕ → Bool

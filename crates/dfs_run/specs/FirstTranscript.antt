@@ -6,12 +6,13 @@ use Rattle.vfs_base.specs.declared.entry.Mark.{Mark}
 use Rattle.vfs_base.specs.declared.entry.Mark.TheVariants as mark
 use Rattle.vfs_base.specs.declared.entry.Who.{Who}
 use Rattle.vfs_base.specs.declared.entry.Who.TheVariants as who
-use Rattle.vfs_model.specs.Line.{form_of}
+use Rattle.dfs_run.specs.LineForms.{form_of}
 use Rattle.vfs_model.specs.Schedule.{schedule_line}
-use Rattle.vfs_model.specs.Shown.{block, bad_line_text, reply_text}
-use Rattle.vfs_model.specs.Tree.{Tree, opening_tree, Outcome, under_mark, mkdir_step, list_step}
-use Rattle.vfs_model.specs.declared.form.LineForm.{LineForm}
-use Rattle.vfs_model.specs.declared.form.LineForm.TheVariants as form
+use Rattle.vfs_model.specs.Shown.{bad_line_text}
+use Rattle.dfs_run.specs.ShownLines.{block, reply_text}
+use Rattle.dfs_run.specs.PlainTree.{Tree, opening_tree, Outcome, under_mark, mkdir_step, list_step}
+use Rattle.dfs_run.specs.declared.form.LineForm.{LineForm}
+use Rattle.dfs_run.specs.declared.form.LineForm.TheVariants as form
 
 -- How far a line's command comes by the front of a schedule.
 pub data Turn : Type 0 where
