@@ -1,6 +1,9 @@
 pub mod EndingLemmas
 pub mod HeadlineLemmas
 pub mod LineLemmas
+pub mod Marks
+pub mod OpeningLemmas
+pub mod ReplayLemmas
 pub mod ServingLemmas
-pub mod ShellLemmas
-pub mod TreeLemmas
+pub mod StandingLemmas
+pub mod TopLemmas

@@ -1,10 +1,9 @@
 pub mod Ending
-pub mod FirstTranscript
 pub mod Headline
-pub mod LineForms
-pub mod PlainTree
+pub mod Opening
+pub mod Replaying
 pub mod Report
 pub mod Serving
-pub mod ShownLines
+pub mod Standing
 pub mod Stopping
 pub mod Writing

@@ -1,19 +1,21 @@
 //! Lines are read, run and shown, one after the other.
 
-ghost use Rattle.std.specs.Prelude.{◌≡◌, ◌≤◌, ◌<◌, ◌+◌, IfOk, IfErr, OnOk, IfSome, IfNone, true};
+ghost use Rattle.std.specs.Prelude.{◌≡◌, ◌≤◌, ◌<◌, ◌+◌, IfOk, IfErr, OnOk, OnErr, IfSome, IfNone, true};
 ghost use Rattle.std.specs.Bool.{OnFalse, OnTrue};
 ghost use Rattle.std.specs.Io.KnownBytes.{IsAtEnd};
 ghost use Rattle.vfs_outside.specs.Causes.{StillTells};
 ghost use Rattle.dfs_input.specs.LineReader.{ahead, ReadsLine, ReadsEnd};
-ghost use Rattle.dfs_run.specs.Serving.{moment_of, KnowsEnd, Serves};
+ghost use Rattle.dfs_run.specs.Ending.{StopsReading};
+ghost use Rattle.dfs_run.specs.Serving.{moment_of, GivesUp, KnowsEnd, RunsLine, Serves};
 ghost use Rattle.dfs_run.specs.Stopping.{ServesAll, Stops, StopsAtLine, StopsPosting, WritesBlock, HasReason};
 
+use crate::plain_system::PlainSystem;
 use crate::report::FaultNote;
-use crate::shell::Shell;
 use crate::writing::write_all;
 use dfs_input::{LineReader, ReadStop};
+use script_stage::Stage;
 use std::alloc::Global;
-use vfs_base::Bytes;
+use vfs_base::{Bytes, NoMemory, SessionId};
 use vfs_outside::{Sink, Source};
 
 /// Serves the lines of the source to its end: each is read, run, and its block written, before the
@@ -22,20 +24,19 @@ use vfs_outside::{Sink, Source};
 pub fn serve_lines<S: Source, K: Sink>(
     alloc: Global,
     reader: &mut LineReader,
-    shell: &mut Shell,
+    stage: &mut Stage<PlainSystem>,
     source: &mut S,
     sink: &mut K,
 ) -> Result<(), FaultNote>
-    ensures ok { OnOk result (ServesAll (moment_of reader.old shell.old.tree shell.old.schedule (S.left source.old) (K.written sink.old))
-        shell.new.schedule (K.written sink.new)) }
+    ensures ok { OnOk result (ServesAll (moment_of reader.old stage.old (S.left source.old) (K.written sink.old)) stage.new (K.written sink.new)) }
     ensures end { KnowsEnd reader.old (S.left source.old) → OnOk result (IsAtEnd (S.left source.new)) }
     ensures quiet { OnOk result ((S.faults source.new ≡ S.faults source.old) × (K.faults sink.new ≡ K.faults sink.old)) }
-    ensures stop { IfErr result (Stops (moment_of reader.old shell.old.tree shell.old.schedule (S.left source.old) (K.written sink.old))
-        shell.new.schedule (K.written sink.new) (S.left source.new)) }
+    ensures stop { IfErr result (Stops (moment_of reader.old stage.old (S.left source.old) (K.written sink.old)) stage.new (K.written sink.new) (S.left source.new)) }
+    ensures calm { IfErr result (λ why. StopsReading why → K.faults sink.new ≡ K.faults sink.old) }
     ensures cause { IfErr result (HasReason (S.faults source.old) (S.faults source.new) (K.faults sink.old) (K.faults sink.new)) }
 {
     'lines: loop {
-        match serve_line(alloc, reader, shell, source, sink) {
+        match serve_line(alloc, reader, stage, source, sink) {
             Ok(true) => {}
             Ok(false) => return Ok(()),
             Err(fault) => return Err(fault),
@@ -44,30 +45,30 @@ pub fn serve_lines<S: Source, K: Sink>(
 }
 
 // Serves the next line; false at the end of the input.
-#[tactic(auto, using(crate::proofs::LineLemmas::line_served, crate::proofs::LineLemmas::reading_stopped, crate::proofs::LineLemmas::posting_stopped))]
+#[tactic(auto, using(crate::proofs::LineLemmas::line_served, crate::proofs::LineLemmas::reading_stopped, crate::proofs::LineLemmas::posting_stopped, crate::proofs::LineLemmas::posts_calmly))]
 fn serve_line<S: Source, K: Sink>(
     alloc: Global,
     reader: &mut LineReader,
-    shell: &mut Shell,
+    stage: &mut Stage<PlainSystem>,
     source: &mut S,
     sink: &mut K,
 ) -> Result<bool, FaultNote>
     ensures more { IfOk result (λ more. OnTrue more (Serves
-        (moment_of reader.old shell.old.tree shell.old.schedule (S.left source.old) (K.written sink.old))
-        (moment_of reader.new shell.new.tree shell.new.schedule (S.left source.new) (K.written sink.new)))) }
-    ensures over { IfOk result (λ more. OnFalse more ((shell.new ≡ shell.old) × (sink.new ≡ sink.old)
+        (moment_of reader.old stage.old (S.left source.old) (K.written sink.old))
+        (moment_of reader.new stage.new (S.left source.new) (K.written sink.new)))) }
+    ensures over { IfOk result (λ more. OnFalse more ((stage.new ≡ stage.old) × (sink.new ≡ sink.old)
         × IsAtEnd (ahead reader.old (S.left source.old)) × (reader.new.at_end ≡ true))) }
     ensures knows { KnowsEnd reader.old (S.left source.old) → KnowsEnd reader.new (S.left source.new) }
     ensures grows { IfOk result (λ more. OnTrue more ((reader.old.size < reader.new.size) × (reader.new.size ≤ 16777216))) }
     ensures quiet { OnOk result ((S.faults source.new ≡ S.faults source.old) × (K.faults sink.new ≡ K.faults sink.old)) }
-    ensures stop { IfErr result (Stops (moment_of reader.old shell.old.tree shell.old.schedule (S.left source.old) (K.written sink.old))
-        shell.new.schedule (K.written sink.new) (S.left source.new)) }
+    ensures stop { IfErr result (Stops (moment_of reader.old stage.old (S.left source.old) (K.written sink.old)) stage.new (K.written sink.new) (S.left source.new)) }
+    ensures calm { IfErr result (λ why. StopsReading why → K.faults sink.new ≡ K.faults sink.old) }
     ensures cause { IfErr result (HasReason (S.faults source.old) (S.faults source.new) (K.faults sink.old) (K.faults sink.new)) }
 {
     match next_line(alloc, reader, source) {
         Err(fault) => Err(fault),
         Ok(None) => Ok(false),
-        Ok(Some(line)) => match post_line(alloc, shell, sink, line.as_slice()) {
+        Ok(Some(line)) => match post_line(alloc, stage, sink, line.as_slice()) {
             Err(fault) => Err(fault),
             Ok(()) => Ok(true),
         },
@@ -101,22 +102,34 @@ fn next_line<S: Source>(
 // Runs the line, and writes its block.
 fn post_line<K: Sink>(
     alloc: Global,
-    shell: &mut Shell,
+    stage: &mut Stage<PlainSystem>,
     sink: &mut K,
     line: &[u8],
 ) -> Result<(), FaultNote>
-    ensures ok { OnOk result (WritesBlock shell.old.tree shell.old.schedule shell.new.tree shell.new.schedule
-        (K.written sink.old) (K.written sink.new) line.now) }
+    ensures ok { OnOk result (WritesBlock stage.old stage.new (K.written sink.old) (K.written sink.new) line.now) }
     ensures quiet { OnOk result (K.faults sink.new ≡ K.faults sink.old) }
-    ensures stop { IfErr result (StopsPosting shell.old.tree shell.old.schedule shell.new.tree shell.new.schedule
-        (K.written sink.old) (K.written sink.new) line.now) }
+    ensures stop { IfErr result (StopsPosting stage.old stage.new (K.written sink.old) (K.written sink.new) line.now) }
     ensures cause { IfErr result (HasReason 0 0 (K.faults sink.old) (K.faults sink.new)) }
 {
-    let Ok(block) = shell.run_line(alloc, line) else {
+    let Ok(block) = run_line(alloc, stage, line) else {
         return Err(FaultNote::NoMemory);
     };
     match write_all(sink, block.as_slice()) {
         Ok(()) => Ok(()),
         Err(_) => Err(FaultNote::WriteFault),
     }
+}
+
+// Runs the line in the first session to its end, and answers its block.
+#[tactic(auto, using(crate::proofs::StandingLemmas::runs_line, crate::proofs::StandingLemmas::gives_up))]
+fn run_line(
+    alloc: Global,
+    stage: &mut Stage<PlainSystem>,
+    line: &[u8],
+) -> Result<Bytes, NoMemory>
+    ensures ok { IfOk result (RunsLine stage.old stage.new line.now) }
+    ensures err { OnErr result (GivesUp stage.old stage.new line.now) }
+{
+    stage.run_line(alloc, SessionId::FIRST, line)?;
+    Ok(stage.hand_out())
 }

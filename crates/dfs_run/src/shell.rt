@@ -1,127 +1,172 @@
-//! A shell at work: one line after the other, on a tree of its own.
+//! A shell from its first line to its end.
 
-ghost use Rattle.std.specs.Prelude.{◌≡◌, List, [], ◌∷◌, ◌++◌, IfOk, OnOk, OnErr, Some};
-ghost use Rattle.vfs_base.specs.declared.entry.Entry.{Entry};
-ghost use Rattle.dfs_run.specs.ShownLines.{block, reply_text};
-ghost use Rattle.dfs_run.specs.FirstTranscript.{turn_of};
-ghost use Rattle.dfs_run.specs.FirstTranscript.Turn.{Finished};
-ghost use Rattle.dfs_run.specs.PlainTree.{opening_tree};
-ghost use Rattle.dfs_run.specs.Serving.{GivesUp, RunsLine, shutdown, steps_of};
+ghost use Rattle.std.specs.Prelude.{◌≡◌, ℕ, List, [], Option, IfNone, IfSome, IsSome};
+ghost use Rattle.std.specs.Io.KnownBytes.{IsAtEnd};
+ghost use Rattle.vfs_base.specs.declared.describe.Describe.{Describe as AnyDescribe};
+ghost use Rattle.script_stage.specs.Scenes.{Scene};
+ghost use Rattle.dfs_run.specs.Ending.{ClosesSchedule, Ends, KeepsReason, StopsReading, StopsWith, TakesEnd};
+ghost use Rattle.dfs_run.specs.Opening.{IsTold};
+ghost use Rattle.dfs_run.specs.Report.{status_of};
+ghost use Rattle.dfs_run.specs.Standing.{StandsBehind};
+ghost use Rattle.dfs_run.specs.Stopping.{HasReason};
 
-use crate::forms::read_line;
-use crate::shown::{bad_line_block, reply_block, start_block};
-use crate::tree::Tree;
+use crate::opening::open_shell;
+use crate::plain_system::PlainSystem;
+use crate::report::{FaultNote, Report};
+use crate::schedule::{with_line, without_last};
+use crate::serving::serve_lines;
+use crate::writing::write_all;
+use dfs_input::LineReader;
+use script_stage::Stage;
 use std::alloc::Global;
-use vfs_base::{Bytes, Entry, List, Mark, NoMemory, Path, Reply, SessionId, Who};
-use crate::form::LineForm;
+use vfs_base::{Describe, List};
+use vfs_outside::{Sink, Source};
 
-/// A shell's tree, and the steps that were taken on it.
-#[derive(Drop)]
-pub struct Shell {
-    pub tree: Tree,
-    pub schedule: List<Entry>,
-}
-
-// A line that was run to its end: its block, and how its step came out, where it took one.
-#[derive(Drop)]
-struct Turn {
-    block: Bytes,
-    mark: Option<Mark>,
-}
-
-impl Shell {
-    /// A shell on the opening tree, before any step.
-    pub fn new(alloc: Global) -> Result<Shell, NoMemory>
-        ensures tree { IfOk result (λ shell. shell.tree ≡ opening_tree) }
-        ensures schedule { IfOk result (λ shell. shell.schedule ≡ []) }
-    {
-        Ok(Shell {
-            tree: Tree::new(alloc)?,
-            schedule: List::new(alloc),
-        })
-    }
-
-    /// Runs the line to its end, and answers its block: the prompt, the line and the command's text.
-    /// After an `Err` the command is given up, and no block is shown.
-    #[tactic(auto, using(crate::proofs::ShellLemmas::runs_line, crate::proofs::ShellLemmas::gives_up))]
-    pub fn run_line(&mut self, alloc: Global, line: &[u8]) -> Result<Bytes, NoMemory>
-        ensures ok { IfOk result (RunsLine self.old.tree self.old.schedule self.new.tree self.new.schedule line.now) }
-        ensures err { OnErr result (GivesUp self.old.tree self.old.schedule self.new.schedule line.now) }
-    {
-        let form = read_line(alloc, line)?;
-        let turn = run_form(&mut self.tree, alloc, line, form)?;
-        push_step(&mut self.schedule, turn.mark)?;
-        Ok(turn.block)
-    }
-
-    /// Takes the last step. An `Err` changes nothing.
-    pub fn shut_down(&mut self) -> Result<(), NoMemory>
-        ensures ok { OnOk result (self.new.schedule ≡ self.old.schedule ++ shutdown ∷ []) }
-        ensures err { OnErr result (self.new.schedule ≡ self.old.schedule) }
-    {
-        self.schedule.push(Entry {
-            who: Who::End,
-            mark: Mark::Clear,
-        })
-    }
-}
-
-// Runs what a line asks for.
-#[tactic(auto, using(crate::proofs::ShellLemmas::step_finished))]
-fn run_form(tree: &mut Tree, alloc: Global, line: &[u8], form: LineForm) -> Result<Turn, NoMemory>
-    ensures { IfOk result (λ turn. (more : List Entry) →
-        turn_of form line.now tree.old (steps_of turn.mark ++ more) ≡ Finished turn.block tree.new more) }
-{
-    match form {
-        LineForm::Blank => Ok(Turn {
-            block: start_block(alloc, line)?,
-            mark: None,
-        }),
-        LineForm::BadLine => Ok(Turn {
-            block: bad_line_block(alloc, line)?,
-            mark: None,
-        }),
-        LineForm::Mkdir { path } => {
-            let (reply, mark) = tree.mkdir(alloc, &path);
-            step_turn(alloc, line, "mkdir", &path, &reply, mark)
-        }
-        LineForm::List { path } => {
-            let (reply, mark) = tree.list(alloc, &path);
-            step_turn(alloc, line, "ls", &path, &reply, mark)
-        }
-    }
-}
-
-// The turn of a command whose one step got this reply and this mark.
-fn step_turn(
+/// Runs the lines of the source in a shell of its own.
+pub fn run_shell<S: Source, K: Sink>(
     alloc: Global,
-    line: &[u8],
-    command: &str,
-    path: &Path,
-    reply: &Reply,
-    mark: Mark,
-) -> Result<Turn, NoMemory>
-    ensures block { IfOk result (λ turn. turn.block ≡ block line.now (reply_text command.now path.now reply.now)) }
-    ensures mark { IfOk result (λ turn. turn.mark ≡ Some mark) }
+    describe: &Describe,
+    source: &mut S,
+    sink: &mut K,
+) -> Report
+    requires { IsTold describe.now }
+    ensures ends { Ends describe.now (S.left source.old) (S.left source.new) result.schedule (K.written sink.old) (K.written sink.new) result.fault }
+    ensures status { result.status ≡ status_of result.fault }
+    ensures over { IfNone result.fault (IsAtEnd (S.left source.new)) }
+    ensures quiet { IfNone result.fault ((S.faults source.new ≡ S.faults source.old) × (K.faults sink.new ≡ K.faults sink.old)) }
+    ensures cause { IfSome result.fault (HasReason (S.faults source.old) (S.faults source.new) (K.faults sink.old) (K.faults sink.new)) }
 {
-    Ok(Turn {
-        block: reply_block(alloc, line, command, path, reply)?,
-        mark: Some(mark),
-    })
+    match open_shell(alloc, describe) {
+        Ok(stage) => serve(alloc, stage, source, sink),
+        Err(_) => Report::new(List::new(alloc), Some(FaultNote::NoMemory)),
+    }
 }
 
-// Puts the entry of a step, where one was taken, behind the others.
-fn push_step(schedule: &mut List<Entry>, mark: Option<Mark>) -> Result<(), NoMemory>
-    ensures ok { OnOk result (schedule.new ≡ schedule.old ++ steps_of mark) }
-    ensures err { OnErr result (schedule.new ≡ schedule.old) }
+// Serves the lines of the source on a new stage.
+fn serve<S: Source, K: Sink>(
+    alloc: Global,
+    mut stage: Stage<PlainSystem>,
+    source: &mut S,
+    sink: &mut K,
+) -> Report
+    ensures ends { (describe : AnyDescribe) → StandsBehind stage describe [] [] →
+        Ends describe (S.left source.old) (S.left source.new) result.schedule (K.written sink.old) (K.written sink.new) result.fault }
+    ensures status { result.status ≡ status_of result.fault }
+    ensures over { IfNone result.fault (IsAtEnd (S.left source.new)) }
+    ensures quiet { IfNone result.fault ((S.faults source.new ≡ S.faults source.old) × (K.faults sink.new ≡ K.faults sink.old)) }
+    ensures cause { IfSome result.fault (HasReason (S.faults source.old) (S.faults source.new) (K.faults sink.old) (K.faults sink.new)) }
 {
-    match mark {
-        Some(mark) => schedule.push(Entry {
-            who: Who::Session {
-                k: SessionId::FIRST,
-            },
-            mark,
-        }),
-        None => Ok(()),
+    let mut reader = LineReader::new();
+    match serve_lines(alloc, &mut reader, &mut stage, source, sink) {
+        Ok(()) => close(alloc, stage, sink),
+        Err(fault) => stop(alloc, stage, fault, sink),
+    }
+}
+
+// Takes the end, and writes what the first session showed last, and the schedule's line. After want of
+// memory the end is no part of the schedule.
+fn close<K: Sink>(alloc: Global, mut stage: Stage<PlainSystem>, sink: &mut K) -> Report
+    ensures closes { ClosesSchedule stage result.schedule (K.written sink.old) (K.written sink.new) result.fault }
+    ensures status { result.status ≡ status_of result.fault }
+    ensures quiet { IfNone result.fault (K.faults sink.new ≡ K.faults sink.old) }
+    ensures cause { IfSome result.fault (HasReason 0 0 (K.faults sink.old) (K.faults sink.new)) }
+{
+    match stage.close(alloc) {
+        Ok(()) => write_end(alloc, stage, sink),
+        Err(_) => Report::new(stage.give_up(alloc), Some(FaultNote::NoMemory)),
+    }
+}
+
+// Writes what the first session showed last, and the schedule's line, of a stage whose end was taken.
+fn write_end<K: Sink>(alloc: Global, mut stage: Stage<PlainSystem>, sink: &mut K) -> Report
+    ensures closes { (before : Scene) → TakesEnd before stage →
+        ClosesSchedule before result.schedule (K.written sink.old) (K.written sink.new) result.fault }
+    ensures status { result.status ≡ status_of result.fault }
+    ensures quiet { IfNone result.fault (K.faults sink.new ≡ K.faults sink.old) }
+    ensures cause { IfSome result.fault (HasReason 0 0 (K.faults sink.old) (K.faults sink.new)) }
+{
+    let rest = stage.hand_out();
+    let schedule = stage.into_schedule();
+    match with_line(alloc, rest, schedule.as_slice()) {
+        Ok(text) => match write_all(sink, text.as_slice()) {
+            Ok(()) => Report::new(schedule, None),
+            Err(_) => Report::new(schedule, Some(FaultNote::WriteFault)),
+        },
+        Err(_) => Report::new(without_last(schedule), Some(FaultNote::NoMemory)),
+    }
+}
+
+// Takes the end of a shell that stopped early, unless memory is wanting, and writes what the first session
+// showed last, unless writing failed.
+fn stop<K: Sink>(
+    alloc: Global,
+    stage: Stage<PlainSystem>,
+    fault: FaultNote,
+    sink: &mut K,
+) -> Report
+    ensures stops { IfSome result.fault (StopsWith fault stage result.schedule (K.written sink.old) (K.written sink.new)) }
+    ensures some { IsSome result.fault }
+    ensures status { result.status ≡ status_of result.fault }
+    ensures cause { IfSome result.fault (KeepsReason fault (K.faults sink.old) (K.faults sink.new)) }
+{
+    match fault {
+        FaultNote::NoMemory => Report::new(stage.give_up(alloc), Some(FaultNote::NoMemory)),
+        FaultNote::WriteFault => take_end(alloc, stage),
+        FaultNote::Usage | FaultNote::BadDeck { .. } | FaultNote::ReadFault => {
+            end_early(alloc, stage, fault, sink)
+        }
+    }
+}
+
+// Takes the end of a shell that can't write any more.
+fn take_end(alloc: Global, mut stage: Stage<PlainSystem>) -> Report
+    ensures stops { (written : Option (List ℕ)) → IfSome result.fault (StopsWith FaultNote.WriteFault stage result.schedule written written) }
+    ensures some { IsSome result.fault }
+    ensures status { result.status ≡ status_of result.fault }
+    ensures cause { (count : ℕ) → IfSome result.fault (KeepsReason FaultNote.WriteFault count count) }
+{
+    match stage.close(alloc) {
+        Ok(()) => Report::new(stage.into_schedule(), Some(FaultNote::WriteFault)),
+        Err(_) => Report::new(stage.give_up(alloc), Some(FaultNote::NoMemory)),
+    }
+}
+
+// Takes the end of a shell that can read no further, and writes what the first session showed last.
+fn end_early<K: Sink>(
+    alloc: Global,
+    mut stage: Stage<PlainSystem>,
+    fault: FaultNote,
+    sink: &mut K,
+) -> Report
+    requires { StopsReading fault }
+    ensures stops { IfSome result.fault (StopsWith fault stage result.schedule (K.written sink.old) (K.written sink.new)) }
+    ensures some { IsSome result.fault }
+    ensures status { result.status ≡ status_of result.fault }
+    ensures cause { IfSome result.fault (KeepsReason fault (K.faults sink.old) (K.faults sink.new)) }
+{
+    match stage.close(alloc) {
+        Ok(()) => write_rest(stage, fault, sink),
+        Err(_) => Report::new(stage.give_up(alloc), Some(FaultNote::NoMemory)),
+    }
+}
+
+// Writes what the first session showed last, of a stage whose end was taken.
+fn write_rest<K: Sink>(
+    mut stage: Stage<PlainSystem>,
+    fault: FaultNote,
+    sink: &mut K,
+) -> Report
+    requires { StopsReading fault }
+    ensures stops { (before : Scene) → TakesEnd before stage →
+        IfSome result.fault (StopsWith fault before result.schedule (K.written sink.old) (K.written sink.new)) }
+    ensures some { IsSome result.fault }
+    ensures status { result.status ≡ status_of result.fault }
+    ensures cause { IfSome result.fault (KeepsReason fault (K.faults sink.old) (K.faults sink.new)) }
+{
+    let rest = stage.hand_out();
+    let schedule = stage.into_schedule();
+    match write_all(sink, rest.as_slice()) {
+        Ok(()) => Report::new(schedule, Some(fault)),
+        Err(_) => Report::new(schedule, Some(FaultNote::WriteFault)),
     }
 }

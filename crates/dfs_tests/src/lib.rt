@@ -4,14 +4,22 @@
 #![tactic(auto)]
 
 #[cfg(test)]
+mod calls;
+#[cfg(test)]
+mod endings;
+#[cfg(test)]
+mod examples;
+#[cfg(test)]
 mod paths;
 #[cfg(test)]
 mod plain_play;
 #[cfg(test)]
 mod plain_schedules;
 #[cfg(test)]
-mod plain_scripts;
+mod program;
 #[cfg(test)]
-mod shell;
+mod replays;
+#[cfg(test)]
+mod shells;
 #[cfg(test)]
 mod streams;

@@ -9,10 +9,10 @@ use vfs_plain::{PlainFault, plain_run};
 pub fn plain_text(
     alloc: Global,
     script: &str,
-    schedule: &str,
+    schedule: &[u8],
 ) -> Result<Result<Bytes, PlainFault>, Fail> {
     let deck = read_deck(alloc, script.as_bytes())?;
-    let entries = read_schedule(alloc, schedule.as_bytes())?;
+    let entries = read_schedule(alloc, schedule)?;
     let describe = Describe {
         volumes: List::new(alloc),
         chars: List::new(alloc),
@@ -28,7 +28,7 @@ pub fn plays(
     text: &str,
     schedule: &str,
 ) -> Result<(), Fail> {
-    let shown = plain_text(alloc, script, schedule)??;
+    let shown = plain_text(alloc, script, schedule.as_bytes())??;
     let mut expected = Bytes::new(alloc);
     expected.extend_from_slice(text.as_bytes())?;
     expected.extend_from_slice(schedule.as_bytes())?;
@@ -45,7 +45,7 @@ pub fn misses(
     schedule: &str,
     at: u64,
 ) -> Result<(), Fail> {
-    let found = plain_text(alloc, script, schedule)?;
+    let found = plain_text(alloc, script, schedule.as_bytes())?;
     assert_eq!(rt;
         found.err(),
         Some(PlainFault::NoSchedule { at }),
