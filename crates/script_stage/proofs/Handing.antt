@@ -91,23 +91,25 @@ hands-closes old before p deck describe handed found g at = record {
         }
 
 -- nothing is left of the first session's text
-pub hands_all : (all : List StageSession) (p : StageSession) → 0 < length all → p.text ≡ [] → (q : StageSession) → slice_get (set all 0 p) 0 ≡ Some q → q.text ≡ []
-hands_all all p h e q found =
+pub hands_all : (all : List StageSession) (before p : StageSession) → 0 < length all → p ≡ record before { text = [] } →
+    (q : StageSession) → slice_get (set all 0 p) 0 ≡ Some q → q.text ≡ []
+hands_all all before p h rest q found =
     let same : p ≡ q = some-same p q (sym (got-same all 0 p h) ∙ found) in
-    ap (λ x. x.text) (sym same) ∙ e
+    ap (λ x. x.text) (sym same) ∙ ap (λ x. x.text) rest
 
 -- the calls by which it is handed out
-pub hands_stands : (now old : Scene) (before p : StageSession) (text : List ℕ) → old ≡ now → slice_get old.sessions 0 ≡ Some before → p.session ≡ before.session →
-    p.phase ≡ before.phase → p.text ≡ [] → before.text ≡ text → (deck : Deck) (describe : Describe) (tasks : List Task) (handed : List ℕ) →
+pub hands_stands : (now old : Scene) (before p : StageSession) (text : List ℕ) → old ≡ now → slice_get old.sessions 0 ≡ Some before →
+    p ≡ record before { text = [] } → before.text ≡ text → (deck : Deck) (describe : Describe) (tasks : List Task) (handed : List ℕ) →
     StandsAt now deck describe tasks handed →
     StandsAt (record { world = old.world; sessions = set old.sessions 0 p; schedule = old.schedule }) deck describe tasks (handed ++ text)
-hands_stands now old before p text same found e f g is deck describe tasks handed at =
+hands_stands now old before p text same found rest is deck describe tasks handed at =
     subst (λ x. StandsAt (record { world = old.world; sessions = set old.sessions 0 p; schedule = old.schedule }) deck describe tasks (handed ++ x)) is
-    (hands-stands old before p deck describe tasks handed found e f g (subst (λ s. StandsAt s deck describe tasks handed) (sym same) at))
+    (hands-stands old before p deck describe tasks handed found (ap (λ x. x.session) rest) (ap (λ x. x.phase) rest) (ap (λ x. x.text) rest)
+    (subst (λ s. StandsAt s deck describe tasks handed) (sym same) at))
 
-pub hands_closes : (now old : Scene) (before p : StageSession) (text : List ℕ) → old ≡ now → slice_get old.sessions 0 ≡ Some before → p.text ≡ [] → before.text ≡ text →
-    (deck : Deck) (describe : Describe) (handed : List ℕ) → ClosesAt now deck describe handed →
+pub hands_closes : (now old : Scene) (before p : StageSession) (text : List ℕ) → old ≡ now → slice_get old.sessions 0 ≡ Some before →
+    p ≡ record before { text = [] } → before.text ≡ text → (deck : Deck) (describe : Describe) (handed : List ℕ) → ClosesAt now deck describe handed →
     ClosesAt (record { world = old.world; sessions = set old.sessions 0 p; schedule = old.schedule }) deck describe (handed ++ text)
-hands_closes now old before p text same found g is deck describe handed at =
+hands_closes now old before p text same found rest is deck describe handed at =
     subst (λ x. ClosesAt (record { world = old.world; sessions = set old.sessions 0 p; schedule = old.schedule }) deck describe (handed ++ x)) is
-    (hands-closes old before p deck describe handed found g (subst (λ s. ClosesAt s deck describe handed) (sym same) at))
+    (hands-closes old before p deck describe handed found (ap (λ x. x.text) rest) (subst (λ s. ClosesAt s deck describe handed) (sym same) at))

@@ -1,4 +1,4 @@
-use Rattle.std.proofs.Common.{◌≡◌, Some, sym, ap, arith}
+use Rattle.std.proofs.Common.{◌≡◌, Some, sym, arith}
 use Rattle.std.specs.Prelude.{slice_get}
 use Rattle.std.proofs.lemmas.Option.{slice_get_read}
 use Rattle.script_stage.proofs.Handing.{hands_all, hands_closes, hands_stands}
@@ -11,7 +11,7 @@ returns-clause-work g c =
     let found : slice_get c.self.inside.sessions.items 0 ≡ Some c.index_mut.result.now =
     slice_get_read c.self.inside.sessions.items 8 0 c.index_mut.result.now (sym c.self.invariant) (omega arith) c.index_mut.ensures.value in
     hands_stands c.args.self.now old c.index_mut.result.now c.hand_out.new.self c.hand_out.result c.self.view_is found
-    (ap (λ p. p.session) c.hand_out.ensures.rest) (ap (λ p. p.phase) c.hand_out.ensures.rest) (ap (λ p. p.text) c.hand_out.ensures.rest) c.hand_out.ensures.text
+    c.hand_out.ensures.rest c.hand_out.ensures.text
 
 pub returns-clause-end : goal.returns-clause-end
 returns-clause-end g c =
@@ -19,8 +19,8 @@ returns-clause-end g c =
     let found : slice_get c.self.inside.sessions.items 0 ≡ Some c.index_mut.result.now =
     slice_get_read c.self.inside.sessions.items 8 0 c.index_mut.result.now (sym c.self.invariant) (omega arith) c.index_mut.ensures.value in
     hands_closes c.args.self.now old c.index_mut.result.now c.hand_out.new.self c.hand_out.result c.self.view_is found
-    (ap (λ p. p.text) c.hand_out.ensures.rest) c.hand_out.ensures.text
+    c.hand_out.ensures.rest c.hand_out.ensures.text
 
 pub returns-clause-out : goal.returns-clause-out
 returns-clause-out g c =
-    hands_all c.self.inside.sessions.items c.hand_out.new.self (omega (arith, c.self.invariant)) (ap (λ p. p.text) c.hand_out.ensures.rest)
+    hands_all c.self.inside.sessions.items c.index_mut.result.now c.hand_out.new.self (omega (arith, c.self.invariant)) c.hand_out.ensures.rest
