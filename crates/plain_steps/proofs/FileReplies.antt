@@ -11,7 +11,7 @@ use Rattle.vfs_base.specs.declared.reply.Reply.{Reply}
 use Rattle.vfs_base.specs.declared.step.Step.{Step}
 use Rattle.vfs_base.specs.declared.step.Step.TheVariants as step
 use Rattle.vfs_model.specs.FileMoves.{clear_step, file_step, move, move_bytes, move_device, stopped_step}
-use Rattle.vfs_model.specs.FileStep.{FileOutcome, file_refusals, refused_file}
+use Rattle.vfs_model.specs.FileStep.{file_refusals, refused_file}
 use Rattle.vfs_model.specs.StepForms.{TellsFolder}
 use Rattle.vfs_model.specs.World.{WorldOutcome, file_part}
 use Rattle.vfs_model.specs.declared.world.FileState.{FileState}

@@ -1,24 +1,18 @@
 -- The roms of a script at the start, and what stops a world from being opened.
-use Rattle.std.specs.Prelude.{◌≡◌, ℕ, ◌+◌, ◌≤◌, Bool, true, false, is_none, is_ok, Option, Some, None, List, [], ◌∷◌, ◌++◌, length, map, Result, Ok, Err}
+use Rattle.std.specs.Prelude.{◌≡◌, ℕ, ◌+◌, ◌≤◌, Bool, true, false, is_none, Some, None, List, [], ◌∷◌, ◌++◌, length, map, Result, Ok, Err}
 use Rattle.std.specs.List.{list_any}
 use Rattle.vfs_base.specs.Path.{Path, AllAre}
+use Rattle.vfs_base.specs.declared.deck.Deck.{Deck}
 use Rattle.vfs_base.specs.declared.deck.RomText.{RomText}
 use Rattle.vfs_base.specs.declared.describe.Describe.{Describe}
 use Rattle.vfs_base.specs.declared.describe.VolumeShape.{VolumeShape}
 use Rattle.vfs_model.specs.Manifest.{manifest_tree}
 use Rattle.vfs_model.specs.Rom.{RomItems}
+use Rattle.vfs_model.specs.ScriptRun.{first_bad_rom, rom_node}
 use Rattle.vfs_model.specs.declared.namespace.RomImage.{RomImage}
 use Rattle.vfs_model.specs.declared.namespace.RomNode.{RomNode}
-use Rattle.vfs_model.specs.declared.namespace.RomNode.TheVariants as rom
-use Rattle.vfs_model.specs.Homes.{opening_world}
-use Rattle.vfs_model.specs.declared.world.World.{World}
 use Rattle.plain_steps.specs.declared.plain_fault.PlainFault.{PlainFault}
 use Rattle.plain_steps.specs.declared.plain_fault.PlainFault.TheVariants as fault
-
--- what stands at a path of a rom
-abbrev pub rom_node : Option (List ℕ) → RomNode
-rom_node None = rom.Dir
-rom_node (Some bytes) = rom.File bytes
 
 -- what stands at each path of a rom
 abbrev pub rom_nodes : RomItems → List (Path × RomNode)
@@ -64,13 +58,8 @@ StopsRoms told fault.NoMemory = Unit {0}
 StopsRoms told (fault.NoSchedule at) = false ≡ true
 
 -- why the world of a script is not opened
-abbrev pub StopsOpening : Result (List RomImage) ℕ → Describe → PlainFault → Type 0
-StopsOpening told describe (fault.BadRom index) = told ≡ Err index
-StopsOpening told describe fault.Untold = (is_ok told ≡ true) × (is_untold describe ≡ true)
-StopsOpening told describe fault.NoMemory = Unit {0}
-StopsOpening told describe (fault.NoSchedule at) = false ≡ true
-
--- the world of a script whose roms were read so
-abbrev pub OpensAs : Result (List RomImage) ℕ → Describe → World → Type 0
-OpensAs (Ok roms) describe w = w ≡ opening_world roms describe
-OpensAs (Err index) describe w = false ≡ true
+abbrev pub StopsOpening : Deck → Describe → PlainFault → Type 0
+StopsOpening deck describe (fault.BadRom index) = first_bad_rom deck ≡ Some index
+StopsOpening deck describe fault.Untold = (first_bad_rom deck ≡ None) × (is_untold describe ≡ true)
+StopsOpening deck describe fault.NoMemory = Unit {0}
+StopsOpening deck describe (fault.NoSchedule at) = ⊥

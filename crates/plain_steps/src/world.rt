@@ -1,11 +1,13 @@
 //! The plain world: one step of it, and the marks that a step may have.
 
-ghost use Rattle.std.specs.Prelude.{◌≡◌, false, true, None, IfOk, IfErr, OnOk, OnErr};
+ghost use Rattle.std.specs.Prelude.{◌≡◌, false, true, None, IfOk, IfErr, OnOk, OnErr, map};
+ghost use Rattle.vfs_model.specs.Homes.{opening_world};
 ghost use Rattle.vfs_model.specs.NamespaceStep.{fits_namespace, is_shutdown, namespace_step};
+ghost use Rattle.vfs_model.specs.ScriptRun.{first_bad_rom, rom_image};
 ghost use Rattle.vfs_model.specs.StepForms.{MayTake, TellsFolder};
 ghost use Rattle.vfs_model.specs.World.{FitsStep, fits_step, namespace_part, session_of, step_row, world_step};
 ghost use Rattle.plain_nodes.specs.Gives.{Gives};
-ghost use Rattle.plain_steps.specs.Opening.{HasFewCellsEach, OpensAs, StopsOpening, is_untold, rom_images};
+ghost use Rattle.plain_steps.specs.Opening.{HasFewCellsEach, StopsOpening, is_untold};
 ghost use Rattle.plain_nodes.specs.Sizes.{IsSized};
 ghost use Rattle.plain_nodes.specs.WorldAnswer.{leaving, world_answer};
 
@@ -49,12 +51,13 @@ impl PlainWorld {
     /// # Errors
     /// `BadRom` with the first rom, counted from 0, whose manifest is not in its form; else `Untold`
     /// where a character device does not tell its input; `NoMemory`.
-    #[tactic(auto, using(crate::proofs::SizedStart::sized_start), unfolding(vfs_model::specs::Homes::opening_world))]
+    #[tactic(auto, using(crate::proofs::SizedStart::sized_start, crate::proofs::RomLists::none_bad, crate::proofs::RomLists::one_bad), unfolding(vfs_model::specs::Homes::opening_world))]
     pub fn open(alloc: Global, deck: &Deck, describe: &Describe) -> Result<PlainWorld, PlainFault>
         requires { HasFewCellsEach describe.now }
-        ensures opens { IfOk result (OpensAs (rom_images 0 deck.now.roms) describe.now) }
+        ensures opens { IfOk result (λ world. world ≡ opening_world (map rom_image deck.now.roms) describe.now) }
+        ensures roms { OnOk result (first_bad_rom deck.now ≡ None) }
         ensures told { OnOk result (is_untold describe.now ≡ false) }
-        ensures fault { IfErr result (StopsOpening (rom_images 0 deck.now.roms) describe.now) }
+        ensures fault { IfErr result (StopsOpening deck.now describe.now) }
     {
         let roms = match rom_images(alloc, deck.roms.as_slice()) {
             Ok(roms) => roms,

@@ -2,7 +2,6 @@ pub mod Calls
 pub mod Places
 pub mod Playing
 pub mod PostedLines
-pub mod RomLists
 pub mod SessionTexts
 pub mod Staging
 pub mod TakenEntries

@@ -1,6 +1,6 @@
 -- What the sessions of a script show, beside the definition of its transcript.
 use Rattle.std.proofs.Common.{◌≡◌, ◌∙◌, ℕ, ◌+◌, true, false, Bool, Some, None, Ok, Err, List, [], ◌∷◌, ◌++◌, length, replicate, refl, sym, ap, arith}
-use Rattle.std.specs.Prelude.{◌==◌, cond, filter, option_map, slice_get}
+use Rattle.std.specs.Prelude.{◌==◌, cond, filter, map, option_map, slice_get}
 use Rattle.std.specs.List.{flat_map, range_with_len}
 use Rattle.std.specs.Option.{option_or}
 use Rattle.vfs_base.specs.declared.deck.Act.{Act}
@@ -9,16 +9,16 @@ use Rattle.vfs_base.specs.declared.deck.Deck.{Deck}
 use Rattle.vfs_base.specs.declared.deck.RomText.{RomText}
 use Rattle.vfs_base.specs.declared.describe.Describe.{Describe}
 use Rattle.vfs_base.specs.declared.entry.Entry.{Entry}
+use Rattle.vfs_model.specs.Homes.{opening_world}
 use Rattle.vfs_model.specs.Schedule.{schedule_line}
-use Rattle.vfs_model.specs.ScriptRun.{RunState, has_ended, no_schedule_at, opening_state, sessions as numbers, state_after, take_entries}
+use Rattle.vfs_model.specs.ScriptRun.{RunState, first_bad_rom, has_ended, no_schedule_at, opening_state, rom_image, sessions as numbers, state_after, take_entries}
 use Rattle.vfs_model.specs.Transcript.{finished_text, has_lines, session_text, session_title, sessions_text, transcript}
 use Rattle.vfs_model.specs.declared.script_form.ScriptForm.TheVariants as form
 use Rattle.vfs_model.specs.declared.world.World.{World}
-use Rattle.plain_steps.specs.Opening.{OpensAs, is_untold, rom_images}
+use Rattle.plain_steps.specs.Opening.{StopsOpening, is_untold}
 use Rattle.plain_steps.specs.declared.plain_fault.PlainFault.{PlainFault}
 use Rattle.plain_steps.specs.declared.plain_fault.PlainFault.TheVariants as fault
 use Rattle.vfs_plain.proofs.Places.{joined-numbers}
-use Rattle.vfs_plain.proofs.RomLists.{opens-well}
 use Rattle.vfs_plain.proofs.Staging.{shown-same}
 use Rattle.vfs_plain.specs.PlainText.{IsPlainText, LacksText}
 use Rattle.vfs_plain.specs.ScriptSessions.{has_line}
@@ -62,17 +62,25 @@ module _ (deck : Deck) (s : RunState) (sessions : List ScriptSession) (all : All
       ∙ ap (λ n. flat_map (λ k. cond (has_lines deck k) (session_title k ++ session_text deck s k) []) (range_with_len 1 n)) all.count
       ∙ sym (joined-filter (has_lines deck) (λ k. session_title k ++ session_text deck s k) numbers)
 
+-- no world was opened, for the first of the reasons
+pub opens-not : (deck : Deck) (describe : Describe) (schedule : List Entry) (why : PlainFault) →
+    StopsOpening deck describe why → LacksText deck describe schedule why
+opens-not deck describe schedule (fault.BadRom index) stops = stops
+opens-not deck describe schedule fault.Untold stops = stops
+opens-not deck describe schedule fault.NoMemory stops = tt
+opens-not deck describe schedule (fault.NoSchedule at) stops = absurd stops
+
 -- the start of a script, where its world was opened
-pub opening-stands : (stage : Stage) (deck : Deck) (describe : Describe) (w : World) → OpensAs (rom_images 0 deck.roms) describe w →
+pub opening-stands : (stage : Stage) (deck : Deck) (describe : Describe) (w : World) → w ≡ opening_world (map rom_image deck.roms) describe →
     StandsAt stage deck.acts (record { world = w; heard = replicate 8 []; is_over = false }) → StandsAt stage deck.acts (opening_state deck describe)
 opening-stands stage deck describe w opens stands = record {
-  world = stands.world ∙ (opens-well deck describe w opens).0;
+  world = stands.world ∙ opens;
   sessions = stands.sessions;
   is_over = stands.is_over;
 }
 
 module _ (stage now : Stage) (deck : Deck) (describe : Describe) (schedule : List Entry) (w : World)
-    (opens : OpensAs (rom_images 0 deck.roms) describe w) (told : is_untold describe ≡ false)
+    (opens : w ≡ opening_world (map rom_image deck.roms) describe) (roms : first_bad_rom deck ≡ None) (told : is_untold describe ≡ false)
     (stands : StandsAt stage deck.acts (record { world = w; heard = replicate 8 []; is_over = false })) where
   transcript-is : (whole : TakesWhole now deck (opening_state deck describe) schedule) →
       transcript form.Replay deck describe schedule ≡ Some (sessions_text deck whole.next ++ schedule_line schedule)
@@ -96,7 +104,7 @@ module _ (stage now : Stage) (deck : Deck) (describe : Describe) (schedule : Lis
       let whole : TakesWhole now deck (opening_state deck describe) schedule =
       taken (opening_state deck describe) (opening-stands stage deck describe w opens stands) in
       record {
-        roms = (opens-well deck describe w opens).1;
+        roms = roms;
         told = told;
         whole = no-gap whole;
         shown =
@@ -109,7 +117,7 @@ module _ (stage now : Stage) (deck : Deck) (describe : Describe) (schedule : Lis
   by-fault (fault.BadRom index) takes = absurd takes
   by-fault fault.Untold takes = absurd takes
   by-fault fault.NoMemory takes = tt
-  by-fault (fault.NoSchedule at) takes = ((opens-well deck describe w opens).1, told, takes)
+  by-fault (fault.NoSchedule at) takes = (roms, told, takes)
 
   -- an entry could not be taken
   pub untaken-lacks : (why : PlainFault) →

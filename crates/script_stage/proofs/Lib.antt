@@ -1,0 +1,12 @@
+pub mod Calls
+pub mod ClosingAll
+pub mod Ending
+pub mod Handing
+pub mod Leading
+pub mod Moving
+pub mod Phasing
+pub mod Reaching
+pub mod SessionLemmas
+pub mod ShownTexts
+pub mod Starting
+pub mod Turning

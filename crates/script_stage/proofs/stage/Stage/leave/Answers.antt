@@ -1,0 +1,13 @@
+use Rattle.std.proofs.Common.{◌∷◌, []}
+use Rattle.vfs_model.specs.Turns.{Leaves}
+use Rattle.script_stage.proofs.Calls.{err_of, leave_end, leaves_behind}
+use Rattle.script_stage.proofs.stage.Stage.leave.Goals as goal
+
+pub returns-in_err-exit-clause-err : goal.returns-in_err-exit-clause-err
+returns-in_err-exit-clause-err g c =
+    err_of c.from_residual.result
+    (leaves_behind c.args.self.now c.loop.self c.exit.new.self (Leaves c.args.k ∷ []) (Leaves c.args.k ∷ []) c.in_err-exit.ensures.err c.loop.invariant.0)
+
+pub returns-clause-ok : goal.returns-clause-ok
+returns-clause-ok g c =
+    leave_end c.in_ok-exit.field-0 c.args.self.now c.loop.self c.exit.new.self c.args.k c.exit.ensures.number c.if-branch.false c.in_ok-exit.ensures.through c.loop.invariant.0

@@ -1,0 +1,6 @@
+pub mod Phases
+pub mod Scenes
+pub mod Sessions
+pub mod Standing
+pub mod Taking
+pub mod Texts
