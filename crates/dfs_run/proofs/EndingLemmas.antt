@@ -1,5 +1,5 @@
 -- A run of the shell ends as its serving ended.
-use Rattle.std.proofs.Common.{◌≡◌, ℕ, true, false, inl, inr, Option, Some, None, IfSome, is_some, if◌then◌else◌, List, [], ◌∷◌, ◌++◌, ◌≤◌, length, map, take, refl, sym, ap, ◌∙◌, subst}
+use Rattle.std.proofs.Common.{◌≡◌, ℕ, true, false, inl, inr, Option, Some, None, IfSome, is_some, if◌then◌else◌, List, [], ◌++◌, ◌≤◌, length, map, take, refl, sym, ap, ◌∙◌, subst}
 use Rattle.std.specs.Prelude.{IsSome}
 use Rattle.std.specs.Io.KnownBytes.{Appends}
 use Rattle.std.proofs.lemmas.List.{take-append-le}
@@ -19,7 +19,7 @@ use Rattle.dfs_run.specs.declared.report.FaultNote.TheVariants as fault
 use Rattle.dfs_run.specs.Ending.{Closes, Ends, ClosesSchedule, FailsWriting, KeepsReason, LeavesOpen, LosesEnd, StopsReading, StopsWith, WritesEnd, WritesEndFront, WritesRest}
 use Rattle.dfs_run.specs.Report.{status_of}
 use Rattle.dfs_run.specs.Headline.{EndsByForm, ShowsFirstLines, is_closed}
-use Rattle.dfs_run.specs.Serving.{Moment, moment_of, opening_moment, Serves, Posts}
+use Rattle.dfs_run.specs.Serving.{Moment, moment_of, opening_moment, Serves}
 use Rattle.script_stage.specs.Scenes.{Scene}
 use Rattle.dfs_run.specs.Standing.{StandsBehind}
 use Rattle.dfs_run.specs.Stopping.{HasReason, MeetsBadLine, MeetsReadFault, ServesAll, Stops}

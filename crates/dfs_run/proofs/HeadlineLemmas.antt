@@ -1,5 +1,5 @@
 -- From the serving of lines to what a run shows of its input.
-use Rattle.std.proofs.Common.{◌≡◌, ℕ, ◌+◌, ◌-◌, ◌≤◌, Bool, true, false, Option, Some, None, IfSome, option_map, unwrap_or, if◌then◌else◌, List, [], ◌∷◌, ◌++◌, length, suc, take, map, refl, sym, ap, ◌∙◌, subst, append_assoc, append-nil, arith}
+use Rattle.std.proofs.Common.{◌≡◌, ℕ, ◌+◌, ◌-◌, Bool, true, false, Option, Some, None, IfSome, option_map, unwrap_or, if◌then◌else◌, List, [], ◌∷◌, ◌++◌, length, suc, take, map, refl, sym, ap, ◌∙◌, subst, append_assoc, append-nil, arith}
 use Rattle.std.specs.List.{concat}
 use Rattle.std.specs.Io.KnownBytes.{Appends}
 use Rattle.std.proofs.KnownBytes.{Appends-trans}

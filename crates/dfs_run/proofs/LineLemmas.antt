@@ -1,15 +1,14 @@
 -- One line more is served, or stops the serving.
-use Rattle.std.proofs.Common.{◌≡◌, ℕ, ◌+◌, Bool, true, false, Option, Some, None, IfSome, List, [], ◌∷◌, ◌++◌, length, map, refl, sym, ap, ◌∙◌, subst, append-nil, arith}
+use Rattle.std.proofs.Common.{◌≡◌, ℕ, ◌+◌, Bool, true, false, Option, Some, None, IfSome, List, [], ◌∷◌, ◌++◌, length, refl, sym, ap, ◌∙◌, subst, append-nil, arith}
 use Rattle.std.specs.Io.KnownBytes.{Appends, Consumes, IsAtEnd}
 use Rattle.std.proofs.KnownBytes.{Appends-nil}
-use Rattle.vfs_model.specs.Script.{raw_lines, line_text, whole_lines, first_bad_from}
+use Rattle.vfs_model.specs.Script.{raw_lines, whole_lines, first_bad_from}
 use Rattle.dfs_run.specs.declared.report.FaultNote.{FaultNote}
 use Rattle.dfs_run.specs.declared.report.FaultNote.TheVariants as fault
 use Rattle.dfs_input.specs.LineReader.{ReaderState, ahead, ReadsLine, TakesLine}
 use Rattle.dfs_run.specs.Ending.{StopsReading}
-use Rattle.dfs_run.specs.Serving.{Moment, moment_of, WhereTold, ComeFirst, Serves, BreaksOff, RunsLine, GivesUp}
+use Rattle.dfs_run.specs.Serving.{Moment, moment_of, WhereTold, ComeFirst, Serves, BreaksOff}
 use Rattle.script_stage.specs.Scenes.{Scene}
-use Rattle.dfs_run.specs.Standing.{StandsBehind, ComesBehind}
 use Rattle.dfs_run.specs.Stopping.{ServesAll, Stops, StopsAtLine, StopsPosting, WritesBlock}
 use Rattle.dfs_input.proofs.ScriptLemmas.{first_bad_from-next, whole_lines-front}
 use Rattle.dfs_run.proofs.ServingLemmas.{ComesBehind-as, Serves-refl, Serves-then}

@@ -1,6 +1,5 @@
 -- The marks that every step may have.
 use Rattle.std.proofs.Common.{◌≡◌, ℕ, true, Option, Some, None, refl}
-use Rattle.vfs_base.specs.declared.entry.Mark.{Mark}
 use Rattle.vfs_base.specs.declared.entry.Mark.TheVariants as mark
 use Rattle.vfs_base.specs.declared.entry.Who.{Who}
 use Rattle.vfs_base.specs.declared.step.Step.{Step}

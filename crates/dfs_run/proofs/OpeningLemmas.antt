@@ -1,5 +1,5 @@
 -- What a run begins with.
-use Rattle.std.proofs.Common.{◌≡◌, ℕ, true, Some, Ok, Err, List, [], get_or, refl, sym, subst, arith}
+use Rattle.std.proofs.Common.{◌≡◌, ℕ, true, Some, Ok, Err, [], get_or, refl, sym, subst, arith}
 use Rattle.std.proofs.lemmas.List.Elements.{All-nil}
 use Rattle.std.proofs.lemmas.List.Quantifiers.{position-Some}
 use Rattle.std.specs.Prelude.{Result}

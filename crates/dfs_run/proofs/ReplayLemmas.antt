@@ -1,5 +1,5 @@
 -- How the run of a script ends, and what a replay of its input shows.
-use Rattle.std.proofs.Common.{◌≡◌, ℕ, suc, ◌+◌, ◌<◌, ◌≤◌, true, false, inl, inr, drop, get_or, add-one, Option, Some, None, IfSome, Result, Ok, Err, option_map, is_some, if◌then◌else◌, length, List, [], ◌∷◌, ◌++◌, refl, sym, ap, ◌∙◌, subst, append_assoc, append-nil}
+use Rattle.std.proofs.Common.{◌≡◌, ℕ, suc, ◌+◌, ◌<◌, ◌≤◌, true, false, inl, inr, drop, get_or, add-one, Option, Some, None, IfSome, Result, Ok, Err, option_map, is_some, if◌then◌else◌, length, List, [], ◌∷◌, ◌++◌, refl, sym, ap, ◌∙◌, subst, append_assoc}
 use Rattle.std.specs.List.{flat_map}
 use Rattle.std.specs.Result.{result_ok, result_err}
 use Rattle.std.specs.Io.KnownBytes.{Appends}
@@ -14,7 +14,7 @@ use Rattle.vfs_model.specs.Deck.{deck_of}
 use Rattle.vfs_model.specs.Schedule.{schedule_line}
 use Rattle.vfs_model.specs.ScriptRun.{RunState, has_ended, state_after}
 use Rattle.vfs_model.specs.Transcript.{finished_text, session_text, sessions_text, transcript}
-use Rattle.vfs_model.specs.Turns.{Task, act_tasks, follows_script, script_tasks}
+use Rattle.vfs_model.specs.Turns.{act_tasks, follows_script}
 use Rattle.vfs_model.specs.declared.script_form.ScriptForm.TheVariants as form
 use Rattle.vfs_outside.specs.Causes.{Rose}
 use Rattle.script_stage.specs.Scenes.{Scene}
@@ -22,8 +22,8 @@ use Rattle.script_stage.specs.Standing.{Breaks, ClosesAt, Does, StandsAt, StopsA
 use Rattle.dfs_words.specs.declared.mode.Job.TheVariants as job
 use Rattle.dfs_run.specs.declared.report.FaultNote.{FaultNote}
 use Rattle.dfs_run.specs.declared.report.FaultNote.TheVariants as fault
-use Rattle.dfs_run.specs.Headline.{EndsByForm, HasTranscript, ReplayShows, ShowsFrontOf, first_bad}
-use Rattle.dfs_run.specs.Replaying.{Plays, ReplayEnds, ShowsWhole, StopsScript}
+use Rattle.dfs_run.specs.Headline.{EndsByForm, HasTranscript, ReplayShows, ShowsFrontOf}
+use Rattle.dfs_run.specs.Replaying.{Plays, ReplayEnds, StopsScript}
 use Rattle.dfs_run.specs.Report.{status_of}
 use Rattle.dfs_run.specs.Stopping.{HasReason}
 use Rattle.dfs_run.proofs.HeadlineLemmas.{open_text, over_text}

@@ -10,7 +10,7 @@ use Rattle.dfs_run.specs.declared.report.FaultNote.{FaultNote}
 use Rattle.dfs_run.specs.declared.report.FaultNote.TheVariants as fault
 use Rattle.dfs_run.specs.Serving.{Moment, WhereTold, ComeFirst, AreWhole, Serves, Posts}
 use Rattle.script_stage.specs.Scenes.{Scene}
-use Rattle.dfs_run.specs.Standing.{StandsBehind, ComesBehind}
+use Rattle.dfs_run.specs.Standing.{ComesBehind}
 use Rattle.dfs_run.specs.Stopping.{Stops}
 
 -- two facts of what is told, one after the other

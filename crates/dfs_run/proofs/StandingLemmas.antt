@@ -1,5 +1,5 @@
 -- What a stage's calls say of the lines of a shell.
-use Rattle.std.proofs.Common.{◌≡◌, ℕ, true, false, Option, Some, None, IfSome, IfNone, option_map, List, [], ◌∷◌, ◌++◌, map, refl, sym, ap, ◌∙◌, subst, append_assoc, append-nil, arith}
+use Rattle.std.proofs.Common.{◌≡◌, ℕ, true, Option, Some, None, IfSome, IfNone, option_map, List, [], ◌∷◌, ◌++◌, map, refl, sym, ap, ◌∙◌, subst, append_assoc, append-nil, arith}
 use Rattle.vfs_base.specs.declared.deck.Deck.{Deck}
 use Rattle.vfs_base.specs.declared.describe.Describe.{Describe}
 use Rattle.vfs_base.specs.declared.entry.Entry.{Entry}
@@ -15,7 +15,7 @@ use Rattle.script_stage.proofs.Ending.{work-stops}
 use Rattle.script_stage.specs.Scenes.{Scene}
 use Rattle.script_stage.specs.Standing.{Breaks, ClosesAt, Does, IsHandedOut, StandsAt, StopsAt, closing_tasks}
 use Rattle.script_stage.specs.declared.stage_session.StageSession.{StageSession}
-use Rattle.dfs_run.specs.Ending.{Closes, HasBlocks, HasFront, KeepsSteps, LeavesOpen, TakesEnd}
+use Rattle.dfs_run.specs.Ending.{Closes, HasFront, KeepsSteps, LeavesOpen, TakesEnd}
 use Rattle.dfs_run.specs.Serving.{GivesUp, RunsLine}
 use Rattle.dfs_run.specs.Standing.{StandsBehind, StopsBehind}
 

@@ -1,5 +1,5 @@
 -- From the end of a job to what its report says of it.
-use Rattle.std.proofs.Common.{◌≡◌, ℕ, true, false, inl, Option, Some, None, IfSome, option_map, List, [], refl, sym, ap, ◌∙◌, subst, arith}
+use Rattle.std.proofs.Common.{◌≡◌, ℕ, inl, Option, Some, None, IfSome, option_map, List, [], refl, sym, ap, ◌∙◌, subst, arith}
 use Rattle.std.specs.Result.{result_err}
 use Rattle.vfs_base.specs.declared.describe.Describe.{Describe}
 use Rattle.vfs_base.specs.declared.entry.Entry.{Entry}

@@ -1,5 +1,5 @@
 -- What a run shows of its input, by the schedule that it reports.
-use Rattle.std.specs.Prelude.{◌≡◌, ◌⊎◌, ℕ, ◌-◌, Bool, true, false, is_some, Option, Some, None, unwrap_or, option_map, Result, Ok, List, [], ◌++◌, take, if◌then◌else◌}
+use Rattle.std.specs.Prelude.{◌≡◌, ◌⊎◌, ℕ, ◌-◌, Bool, true, false, is_some, Option, Some, None, unwrap_or, option_map, Ok, List, [], ◌++◌, take, if◌then◌else◌}
 use Rattle.std.specs.Result.{result_ok, result_err}
 use Rattle.std.specs.Io.KnownBytes.{Appends}
 use Rattle.vfs_base.specs.declared.deck.Deck.{Deck}

@@ -1,5 +1,5 @@
 -- How a replay ends, by its reason.
-use Rattle.std.specs.Prelude.{◌≡◌, ◌⊎◌, ℕ, true, false, ⊤, Option, Some, None, IfSome, Result, Ok, Err, List, []}
+use Rattle.std.specs.Prelude.{◌≡◌, ◌⊎◌, ℕ, true, false, ⊤, Option, Some, None, IfSome, Err, List, []}
 use Rattle.std.specs.Io.KnownBytes.{Appends}
 use Rattle.vfs_base.specs.declared.deck.Deck.{Deck}
 use Rattle.vfs_base.specs.declared.describe.Describe.{Describe}

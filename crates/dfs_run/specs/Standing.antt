@@ -1,5 +1,5 @@
 -- Where a shell's stage stands between two lines.
-use Rattle.std.specs.Prelude.{◌≡◌, ℕ, Bool, true, false, Some, List, [], ◌++◌, slice_get}
+use Rattle.std.specs.Prelude.{ℕ, Bool, true, false, List, ◌++◌}
 use Rattle.vfs_base.specs.declared.describe.Describe.{Describe}
 use Rattle.vfs_model.specs.Deck.{shell_deck}
 use Rattle.vfs_model.specs.Turns.{script_tasks}

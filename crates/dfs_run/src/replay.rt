@@ -89,11 +89,7 @@ fn play<K: Sink>(alloc: Global, deck: &Deck, describe: &Describe, sink: &mut K) 
 }
 
 // Plays all acts of the script, and takes the end.
-fn play_all(
-    alloc: Global,
-    stage: &mut Stage<PlainSystem>,
-    deck: &Deck,
-) -> Result<(), NoMemory>
+fn play_all(alloc: Global, stage: &mut Stage<PlainSystem>, deck: &Deck) -> Result<(), NoMemory>
     requires { IsScript deck.now }
     ensures ok { OnOk result ((describe : AnyDescribe) →
         StandsAt stage.old deck.now describe (script_tasks deck.now) [] → ClosesAt stage.new deck.now describe []) }

@@ -122,11 +122,7 @@ fn post_line<K: Sink>(
 
 // Runs the line in the first session to its end, and answers its block.
 #[tactic(auto, using(crate::proofs::StandingLemmas::runs_line, crate::proofs::StandingLemmas::gives_up))]
-fn run_line(
-    alloc: Global,
-    stage: &mut Stage<PlainSystem>,
-    line: &[u8],
-) -> Result<Bytes, NoMemory>
+fn run_line(alloc: Global, stage: &mut Stage<PlainSystem>, line: &[u8]) -> Result<Bytes, NoMemory>
     ensures ok { IfOk result (RunsLine stage.old stage.new line.now) }
     ensures err { OnErr result (GivesUp stage.old stage.new line.now) }
 {

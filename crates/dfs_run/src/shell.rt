@@ -98,12 +98,7 @@ fn write_end<K: Sink>(alloc: Global, mut stage: Stage<PlainSystem>, sink: &mut K
 
 // Takes the end of a shell that stopped early, unless memory is wanting, and writes what the first session
 // showed last, unless writing failed.
-fn stop<K: Sink>(
-    alloc: Global,
-    stage: Stage<PlainSystem>,
-    fault: FaultNote,
-    sink: &mut K,
-) -> Report
+fn stop<K: Sink>(alloc: Global, stage: Stage<PlainSystem>, fault: FaultNote, sink: &mut K) -> Report
     ensures stops { IfSome result.fault (StopsWith fault stage result.schedule (K.written sink.old) (K.written sink.new)) }
     ensures some { IsSome result.fault }
     ensures status { result.status ≡ status_of result.fault }
@@ -151,11 +146,7 @@ fn end_early<K: Sink>(
 }
 
 // Writes what the first session showed last, of a stage whose end was taken.
-fn write_rest<K: Sink>(
-    mut stage: Stage<PlainSystem>,
-    fault: FaultNote,
-    sink: &mut K,
-) -> Report
+fn write_rest<K: Sink>(mut stage: Stage<PlainSystem>, fault: FaultNote, sink: &mut K) -> Report
     requires { StopsReading fault }
     ensures stops { (before : Scene) → TakesEnd before stage →
         IfSome result.fault (StopsWith fault before result.schedule (K.written sink.old) (K.written sink.new)) }

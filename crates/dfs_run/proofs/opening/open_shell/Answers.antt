@@ -1,4 +1,4 @@
-use Rattle.std.proofs.Common.{◌≡◌, List, [], ap, map, ◌∙◌}
+use Rattle.std.proofs.Common.{◌≡◌, [], ap, map, ◌∙◌}
 use Rattle.std.proofs.lemmas.Result.{IfOk-weaker}
 use Rattle.vfs_base.specs.declared.deck.Deck.{Deck}
 use Rattle.vfs_base.specs.declared.describe.Describe.{Describe}
@@ -16,6 +16,6 @@ returns c =
     (λ stage. (deck : Deck) (describe : Describe) → c.in_ok-world.world ≡ opening_world (map rom_image deck.roms) describe → StandsAt stage deck describe (script_tasks deck) [])
     _
     (λ stage new.
-        stands_new stage c.in_ok-world.world c.args.describe.now new
-        (opened ∙ ap (λ roms. opening_world (map rom_image roms) c.args.describe.now) c.new.ensures))
+    stands_new stage c.in_ok-world.world c.args.describe.now new
+    (opened ∙ ap (λ roms. opening_world (map rom_image roms) c.args.describe.now) c.new.ensures))
     c.new-3.ensures

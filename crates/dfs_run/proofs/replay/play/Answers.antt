@@ -1,4 +1,4 @@
-use Rattle.std.proofs.Common.{[], Some, inr, refl, ◌∙◌}
+use Rattle.std.proofs.Common.{Some, inr, refl, ◌∙◌}
 use Rattle.dfs_run.specs.declared.report.FaultNote.TheVariants as fault
 use Rattle.dfs_run.proofs.ReplayLemmas.{plays_so, stopped_front}
 use Rattle.dfs_run.proofs.replay.play.Goals as goal

@@ -1,4 +1,4 @@
-use Rattle.std.proofs.Common.{[], Some, refl, inr, ◌∙◌}
+use Rattle.std.proofs.Common.{Some, refl, inr}
 use Rattle.dfs_run.specs.declared.report.FaultNote.TheVariants as fault
 use Rattle.dfs_run.proofs.ReplayLemmas.{lacks_replay_end, plays_so, plays_written}
 use Rattle.dfs_run.proofs.replay.write_replay.Goals as goal
@@ -12,6 +12,8 @@ pub returns-in-Err-clause-writes : goal.returns-in-Err-clause-writes
 returns-in-Err-clause-writes g c = λ describe closes.
     let written = g.K.Sink.written c.args.sink.now in
     plays_so c.args.deck.now describe c.without_last.result c.new.result.schedule written written (Some fault.NoMemory) c.new.result.fault
-    c.new.ensures.schedule c.new.ensures.fault
-    (refl, inr (lacks_replay_end c.args.stage c.args.deck.now describe c.into_schedule-schedule.result c.without_last.result written closes
-    c.into_schedule-schedule.ensures c.without_last.ensures))
+    c.new.ensures.schedule c.new.ensures.fault (
+      refl,
+      inr (lacks_replay_end c.args.stage c.args.deck.now describe c.into_schedule-schedule.result c.without_last.result written closes
+          c.into_schedule-schedule.ensures c.without_last.ensures),
+    )

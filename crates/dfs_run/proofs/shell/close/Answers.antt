@@ -1,4 +1,4 @@
-use Rattle.std.proofs.Common.{refl, sym, ◌∙◌, subst}
+use Rattle.std.proofs.Common.{refl, ◌∙◌}
 use Rattle.std.proofs.Common.{Some}
 use Rattle.dfs_run.specs.declared.report.FaultNote.TheVariants as fault
 use Rattle.dfs_run.proofs.EndingLemmas.{closes_so}

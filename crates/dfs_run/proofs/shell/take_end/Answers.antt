@@ -1,4 +1,4 @@
-use Rattle.std.proofs.Common.{refl, sym, ◌∙◌, subst}
+use Rattle.std.proofs.Common.{refl, ◌∙◌}
 use Rattle.dfs_run.specs.declared.report.FaultNote.TheVariants as fault
 use Rattle.dfs_run.proofs.EndingLemmas.{stops_so}
 use Rattle.dfs_run.proofs.StandingLemmas.{closes_unseen, leaves_open, text_of}

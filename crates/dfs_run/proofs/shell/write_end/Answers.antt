@@ -36,6 +36,8 @@ pub returns-clause-closes : goal.returns-clause-closes
 returns-clause-closes g c = λ before ends.
     let sink = g.K.Sink.written c.args.sink.now in
     closes_so before c.without_last.result c.new-in-Err.result.schedule sink sink (Some fault.NoMemory) c.new-in-Err.result.fault
-    c.new-in-Err.ensures.schedule c.new-in-Err.ensures.fault
-    (lacks_end before c.args.stage c.into_schedule-schedule.result c.without_last.result ends
-    (c.into_schedule-schedule.ensures ∙ c.hand_out-rest.ensures.schedule) c.without_last.ensures, refl)
+    c.new-in-Err.ensures.schedule c.new-in-Err.ensures.fault (
+      lacks_end before c.args.stage c.into_schedule-schedule.result c.without_last.result ends
+          (c.into_schedule-schedule.ensures ∙ c.hand_out-rest.ensures.schedule) c.without_last.ensures,
+      refl,
+    )

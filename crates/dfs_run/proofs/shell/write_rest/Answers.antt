@@ -1,4 +1,4 @@
-use Rattle.std.proofs.Common.{refl, sym, ◌∙◌, subst, arith}
+use Rattle.std.proofs.Common.{◌∙◌, subst, arith}
 use Rattle.std.specs.Io.KnownBytes.{Appends}
 use Rattle.dfs_run.specs.Writing.{AppendsFront}
 use Rattle.dfs_run.specs.declared.report.FaultNote.TheVariants as fault

@@ -13,4 +13,4 @@ returns-in-Ok-clause-front g c =
 pub returns-in-Err-NoMemory-clause-front : goal.returns-in-Err-NoMemory-clause-front
 returns-in-Err-NoMemory-clause-front g c =
     front_unbegun_so (job_of (map string_bytes c.args.words.now)) c.args.devices.now (g.S.Source.left c.args.source.now) (g.K.Sink.written c.args.sink.now)
-    c.new-in-Err-NoMemory.result.schedule c.new-in-Err-NoMemory.result.fault (c.new-in-Err-NoMemory.ensures.schedule ∙ c.new.ensures) c.new-in-Err-NoMemory.ensures.fault
+    c.new-in-Err-NoMemory-2.result.schedule c.new-in-Err-NoMemory-2.result.fault (c.new-in-Err-NoMemory-2.ensures.schedule ∙ c.new-in-Err-NoMemory.ensures) c.new-in-Err-NoMemory-2.ensures.fault
