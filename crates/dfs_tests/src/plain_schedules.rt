@@ -4,69 +4,6 @@ use std::test::Fail;
 use vfs_base::{CharsShape, Deck, Describe, List, Name, RomText, copy_bytes};
 use vfs_plain::{PlainFault, plain_run};
 
-#[test]
-fn texts_are_copied(rt: HostRuntime) -> Result<(), Fail> {
-    let alloc = rt.alloc();
-    plays(
-        &rt,
-        alloc,
-        "1 mkdir\n1 echo \"a b\" /f\n1 cp /f /g\n1 cat /g\n1 cp /f /f\n",
-        "[1]\nmsh />mkdir\nusage: mkdir PATH\nmsh />echo \"a b\" /f\nmsh />cp /f /g\nmsh />cat /g\na b\n\
-msh />cp /f /f\ncp: /f: EINVAL\n",
-        "# 1 1 1 1 1 1 1 1 1 1 1 1 1 1 1 1 1 1 1 z",
-    )?;
-    Ok(())
-}
-
-#[test]
-fn roms_are_read(rt: HostRuntime) -> Result<(), Fail> {
-    let alloc = rt.alloc();
-    plays(
-        &rt,
-        alloc,
-        "rom boot\nd /etc\nf /etc/empty\nf /etc/id 5254\nend\n1 mkdir /r\n1 mount boot /r rom\n1 ls /r/etc\n1 cat /r/etc/id\n1 echo x /r/etc/id\n",
-        "[1]\nmsh />mkdir /r\nmsh />mount boot /r rom\nmsh />ls /r/etc\nDirectory /r/etc:\nempty               0\n\
-id                  2\nmsh />cat /r/etc/id\nRT\nmsh />echo x /r/etc/id\necho: /r/etc/id: EROFS\n",
-        "# 1 1 1 1 1 1 1 1 1 1 z",
-    )?;
-    Ok(())
-}
-
-#[test]
-fn a_line_ends_with_a_carriage_return_or_the_input(rt: HostRuntime) -> Result<(), Fail> {
-    let alloc = rt.alloc();
-    plays(
-        &rt,
-        alloc,
-        "1 pwd\r\n1 pwd",
-        "[1]\nmsh />pwd\n/\nmsh />pwd\n/\n",
-        "# 1 1 z",
-    )?;
-    Ok(())
-}
-
-#[test]
-fn appends_interleave(rt: HostRuntime) -> Result<(), Fail> {
-    let alloc = rt.alloc();
-    let script = "@1 echo AA /f\n@2 echo BB /f\n! 1 2 2 1\n3 cat /f\n";
-    plays(
-        &rt,
-        alloc,
-        script,
-        "[1]\nmsh />echo AA /f\n[2]\nmsh />echo BB /f\n[3]\nmsh />cat /f\nBBAA\n",
-        "# 1 2 2 1 3 3 3 3 1 2 z",
-    )?;
-    // Another order of the same steps is another text.
-    plays(
-        &rt,
-        alloc,
-        script,
-        "[1]\nmsh />echo AA /f\n[2]\nmsh />echo BB /f\n[3]\nmsh />cat /f\nAABB\n",
-        "# 1 2 1 2 3 3 3 3 1 2 z",
-    )?;
-    Ok(())
-}
-
 const TWO_FOLDERS: &str = "1 mkdir /a\n2 mkdir /b\n";
 
 #[test]
