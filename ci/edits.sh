@@ -10,5 +10,9 @@ cd "$work" || exit 2
 for kept in crates/*/must-fail/*.md; do
     [ -e "$kept" ] && mv "$kept" "${kept%.md}.edit"
 done
-rt must-fail "$@" >log 2>&1
-cat log
+names=$(echo "${*:-[a-z0-9_]+}" | tr ' ' '|')
+rt must-fail "$@" 2>&1 | tee log | grep '^rt: must-fail .*\.edit: '
+tried=$(find crates -name '*.edit' | grep -cE "^crates/($names)/must-fail/")
+refused=$(grep -cE "^rt: must-fail ($names)/.*\.edit: refused, as it must be" log)
+echo "$refused refused, $((tried - refused)) not"
+[ "$refused" -eq "$tried" ]
