@@ -19,7 +19,8 @@ use Rattle.vfs_base.specs.declared.reply.Reply.TheVariants as reply
 use Rattle.vfs_base.specs.declared.step.Step.{Step}
 use Rattle.vfs_base.specs.declared.step.Step.TheVariants as step
 use Rattle.vfs_model.specs.Asking.{Asked, may_ask, run_steps}
-use Rattle.vfs_model.specs.Cache.{cache_step, evict_last, reclaim, touch, truncate, write_back}
+use Rattle.vfs_model.specs.Cache.{evict_last, reclaim, row_run, touch, truncate, write_back}
+use Rattle.vfs_model.specs.FailedCalls.{stopped_run}
 use Rattle.vfs_model.specs.FileLife.{bind_row, free_if_unused, free_row}
 use Rattle.vfs_model.specs.FileMoves.{file_step, fits_file}
 use Rattle.vfs_model.specs.FileStep.{file_refusals, moved_count}
@@ -85,7 +86,7 @@ no errno = reply.Refused errno
 
 -- what an example computes with: a theorem unfolds it by the line `unfolding steps`
 unfoldable pub steps : Unit {0}
-unfolding may_ask evict_last touch write_back reclaim truncate cache_step bind_row free_row free_if_unused file_step fits_file file_refusals moved_count holder_lines io_totals covering_mount node_at walk_refusal has_mount_below with_node mount_refusals add_mount mount_at mkdir_refusals without_node rmdir_refusals unlink_refusals folder_refusals opening_namespace shutdown_step namespace_step touched_rows open_refusals make_file open_at give_up_step map_step moved with_moved rename_refusals move_refusals move_at rename_at is_busy empty_mount remove_mount umount_at remove_all mkfs_step opening_world world_step fits_step
+unfolding may_ask evict_last touch write_back reclaim truncate row_run stopped_run bind_row free_row free_if_unused file_step fits_file file_refusals moved_count holder_lines io_totals covering_mount node_at walk_refusal has_mount_below with_node mount_refusals add_mount mount_at mkdir_refusals without_node rmdir_refusals unlink_refusals folder_refusals opening_namespace shutdown_step namespace_step touched_rows open_refusals make_file open_at give_up_step map_step moved with_moved rename_refusals move_refusals move_at rename_at is_busy empty_mount remove_mount umount_at remove_all mkfs_step opening_world world_step fits_step
 steps = tt
 
 abbrev pub at_path : Path → ℕ → HolderLine

@@ -1,5 +1,7 @@
+pub mod AskedSteps
 pub mod BlockLemmas
 pub mod CacheExamples
+pub mod CleanedPages
 pub mod CommandExamples
 pub mod CommandRuns
 pub mod CopyCommandExamples
@@ -13,6 +15,7 @@ pub mod DoneSessions
 pub mod EmptyMounts
 pub mod ExampleSteps
 pub mod Examples
+pub mod FailedCallExamples
 pub mod FileCommandExamples
 pub mod FileTalks
 pub mod FolderCommandExamples
@@ -36,6 +39,7 @@ pub mod RefusalExamples
 pub mod RefusedSteps
 pub mod RenameLaws
 pub mod ReplyTaking
+pub mod RowShapes
 pub mod ScheduleExactness
 pub mod ScheduleExamples
 pub mod ScheduleLemmas
@@ -47,6 +51,8 @@ pub mod ShellExamples
 pub mod ShellRuns
 pub mod ShellTables
 pub mod SoundDescriptors
+pub mod StoppedCalls
+pub mod TallyExamples
 pub mod TranscriptExamples
 pub mod TranscriptLemmas
 pub mod TranscriptRuns

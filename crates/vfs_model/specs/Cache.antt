@@ -3,15 +3,17 @@ use Rattle.std.specs.Prelude.{ℕ, zero, suc, ◌+◌, ◌-◌, ◌/◌, ◌%◌
 use Rattle.std.specs.BTreeSet.{insert_key}
 use Rattle.std.specs.List.{last_or, list_any, range_with_len}
 use Rattle.std.specs.Ordering.{nat_cmp}
-use Rattle.vfs_base.specs.declared.kinds.Kind.TheVariants as kind
 use Rattle.vfs_base.specs.declared.step.Step.{Step}
 use Rattle.vfs_base.specs.declared.step.Step.TheVariants as step
 use Rattle.vfs_base.specs.declared.limits.TheConstants.{PAGE_SIZE, RECLAIM_TARGET, RESIDENT_PAGES}
-use Rattle.vfs_model.specs.FileStep.{bytes_count, bytes_refusals}
+use Rattle.vfs_model.specs.FileMoves.{is_on_cell}
+use Rattle.vfs_model.specs.FileStep.{file_refusals, moved_count}
 use Rattle.vfs_model.specs.declared.cache.CacheState.{CacheState}
 use Rattle.vfs_model.specs.declared.cache.DeviceCall.{DeviceCall}
 use Rattle.vfs_model.specs.declared.cache.DeviceCall.TheVariants as call
 use Rattle.vfs_model.specs.declared.cache.Resident.{Resident}
+use Rattle.vfs_model.specs.declared.world.FileState.{FileState}
+use Rattle.vfs_model.specs.declared.world.FileState.TheVariants as file
 
 -- the cache on the way through a step, and the calls of the device so far
 pub record CacheRun : Type 0 where
@@ -78,8 +80,8 @@ abbrev pub make_dirty : ℕ → Resident → Resident
 make_dirty page slot = if is_page page slot then record slot { is_dirty = true } else slot
 
 -- the page is resident, in front and dirty
-abbrev pub edit : CacheRun → ℕ → CacheRun
-edit run page =
+abbrev pub touch_and_edit : CacheRun → ℕ → CacheRun
+touch_and_edit run page =
     let touched = touch run page in
     record touched { next = record touched.next { resident = map (make_dirty page) touched.next.resident } }
 
@@ -118,39 +120,46 @@ cut_pages keep run = record run {
   };
 }
 
--- the page in which a file ends now is edited where it is not all zeros
+-- the page in which a file ends now is edited where it is resident or stored
 abbrev pub edit_end : CacheRun → ℕ → CacheRun
 edit_end run len =
     if not (len % PAGE_SIZE == 0) && (is_resident run.next (len / PAGE_SIZE) || is_stored run.next (len / PAGE_SIZE))
-    then edit run (len / PAGE_SIZE) else run
+    then touch_and_edit run (len / PAGE_SIZE) else run
 
 -- a file of so many bytes is cut to a length
 unfoldable pub truncate : CacheRun → ℕ → ℕ → CacheRun
 truncate run size len = if nat_lt len size then cut_pages ((len + PAGE_SIZE - 1) / PAGE_SIZE) (edit_end run len) else run
 
--- the bytes that a step moves in a cell of this capacity with so many bytes
-abbrev pub cell_count : ℕ → ℕ → Step → ℕ
-cell_count capacity size asked = if is_ok (bytes_refusals kind.Cell capacity size asked) then bytes_count capacity size asked else 0
-
 -- a step that moves so many bytes, from the cache of a file of so many bytes on
 abbrev pub cache_move : CacheRun → ℕ → Step → ℕ → CacheRun
 cache_move run size (step.Read id off len) count = fold touch run (pages_of off count)
 cache_move run size (step.Load id off len) count = fold touch run (pages_of off count)
-cache_move run size (step.Write id off piece) count = fold edit run (pages_of off count)
-cache_move run size (step.Store id off piece) count = fold edit run (pages_of off count)
-cache_move run size (step.Append id piece) count = fold edit run (pages_of size count)
+cache_move run size (step.Write id off piece) count = fold touch_and_edit run (pages_of off count)
+cache_move run size (step.Store id off piece) count = fold touch_and_edit run (pages_of off count)
+cache_move run size (step.Append id piece) count = fold touch_and_edit run (pages_of size count)
 cache_move run size (step.Trunc id len) count = truncate run size len
 cache_move run size (step.Sync id) count = write_back run
 cache_move run size (step.Flush row) count = write_back run
 cache_move run size (step.Reclaim row) count = reclaim run
 cache_move run size _ count = run
 
--- the cache after a step that nothing stops, and the calls of the device that it makes
-unfoldable pub cache_step : CacheState → ℕ → ℕ → Step → CacheRun
-cache_step cache capacity size asked =
-    let run : CacheRun = record { next = cache; calls = [] } in
-    if is_ok (bytes_refusals kind.Cell capacity size asked) then cache_move run size asked (cell_count capacity size asked) else run
+-- the run of a step begins: no call so far
+abbrev pub begin_run : CacheState → CacheRun
+begin_run cache = record { next = cache; calls = [] }
 
--- the calls of the device that a step makes which nothing stops
-abbrev pub device_calls : CacheState → ℕ → ℕ → Step → List DeviceCall
-device_calls cache capacity size asked = (cache_step cache capacity size asked).calls
+-- the bytes of a file in memory or on a cell
+abbrev pub file_size : FileState → ℕ
+file_size (file.Unbound generation) = 0
+file_size (file.Bytes generation kind capacity bytes) = length bytes
+file_size (file.Device generation input output) = 0
+
+-- The cache of a row after a step that nothing stops, and the calls of its device that the step makes: none where it is
+-- refused, and none where the row's file does not lie on a cell.
+unfoldable pub row_run : FileState → CacheState → Step → CacheRun
+row_run f cache asked =
+    if is_on_cell f && is_ok (file_refusals f asked) then cache_move (begin_run cache) (file_size f) asked (moved_count f asked)
+    else begin_run cache
+
+-- the calls of a row's device that a step makes which nothing stops
+abbrev pub row_calls : FileState → CacheState → Step → List DeviceCall
+row_calls f cache asked = (row_run f cache asked).calls

@@ -6,7 +6,7 @@ use Rattle.vfs_base.specs.declared.step.Step.{Step}
 use Rattle.vfs_base.specs.declared.step.Step.TheVariants as step
 use Rattle.vfs_base.specs.declared.limits.TheConstants.{ROWS}
 use Rattle.vfs_model.specs.Asking.{Asked}
-use Rattle.vfs_model.specs.Cache.{CacheRun, cache_step, empty_cache, write_back}
+use Rattle.vfs_model.specs.Cache.{CacheRun, begin_run, empty_cache, row_run, write_back}
 use Rattle.vfs_model.specs.FileLife.{backing_of, volume_named}
 use Rattle.vfs_model.specs.Namespace.{life_at}
 use Rattle.vfs_model.specs.NamespaceStep.{namespace_step}
@@ -24,8 +24,6 @@ use Rattle.vfs_model.specs.declared.namespace.Origin.TheVariants as origin
 use Rattle.vfs_model.specs.declared.namespace.RomImage.{RomImage}
 use Rattle.vfs_model.specs.declared.namespace.RowChange.{RowChange}
 use Rattle.vfs_model.specs.declared.namespace.RowChange.TheVariants as change
-use Rattle.vfs_model.specs.declared.world.FileState.{FileState}
-use Rattle.vfs_model.specs.declared.world.FileState.TheVariants as file
 use Rattle.vfs_model.specs.declared.world.World.{World}
 
 -- how often a volume's devices were called
@@ -85,15 +83,9 @@ count_calls io volume calls =
 abbrev pub after_run : IoState → ℕ → ℕ → CacheRun → IoState
 after_run io row volume run = count_calls (with_cache io row run.next) volume run.calls
 
-abbrev pub io_cell : IoState → ℕ → ℕ → FileState → Step → IoState
-io_cell io row volume (file.Bytes generation kind capacity bytes) asked =
-    after_run io row volume (cache_step (cache_at io row) capacity (length bytes) asked)
-io_cell io row volume (file.Unbound generation) asked = io
-io_cell io row volume (file.Device generation input output) asked = io
-
 -- a step of a row whose file lies on a cell
 abbrev pub io_row : World → IoState → ℕ → Step → Backing → IoState
-io_row w io row asked (backing.Cell volume cell) = io_cell io row volume (file_at w row) asked
+io_row w io row asked (backing.Cell volume cell) = after_run io row volume (row_run (file_at w row) (cache_at io row) asked)
 io_row w io row asked backing.Memory = io
 io_row w io row asked (backing.Device device) = io
 
@@ -108,7 +100,7 @@ io_bind io row (origin.Device device) = io
 -- a row's cache as the row is freed: it is written back where the volume keeps the file, and else dropped
 abbrev pub io_free : IoState → ℕ → End → IoState
 io_free io row (end.Kept volume cell) =
-    let run = write_back (record { next = cache_at io row; calls = [] }) in
+    let run = write_back (begin_run (cache_at io row)) in
     with_cache (with_stored (after_run io row volume run) volume cell run.next.stored) row empty_cache
 io_free io row (end.Spare volume cell) = with_cache io row empty_cache
 io_free io row end.Nothing = io

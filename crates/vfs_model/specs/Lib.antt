@@ -1,6 +1,8 @@
 pub mod Asking
+pub mod BlockDevice
 pub mod Boxes
 pub mod Cache
+pub mod CacheLaws
 pub mod Chain
 pub mod Command
 pub mod CommandText
@@ -13,6 +15,8 @@ pub mod Deck
 pub mod DeckLaws
 pub mod DeckLine
 pub mod DescriptorLaws
+pub mod FailedCalls
+pub mod FaultCounts
 pub mod FileCommands
 pub mod FileLife
 pub mod FileMoves
@@ -23,6 +27,7 @@ pub mod Homes
 pub mod IoTotals
 pub mod Laws
 pub mod Lookup
+pub mod MadeCalls
 pub mod Manifest
 pub mod MappingCommands
 pub mod Mappings
@@ -37,10 +42,12 @@ pub mod Numeral
 pub mod OpenCommands
 pub mod OpenFiles
 pub mod OpenStep
+pub mod PageList
 pub mod PlainName
 pub mod ReferenceSteps
 pub mod RenameStep
 pub mod Rom
+pub mod RowShape
 pub mod Schedule
 pub mod Script
 pub mod ScriptRun
@@ -52,6 +59,7 @@ pub mod StepForms
 pub mod Summary
 pub mod Tables
 pub mod Talk
+pub mod Tally
 pub mod TextCommands
 pub mod Transcript
 pub mod TranscriptLaws

@@ -1,5 +1,6 @@
 -- The lines of an input, and the first that is outside the form.
 use Rattle.std.specs.Prelude.{ℕ, ◌+◌, ◌-◌, ◌==◌, ◌||◌, Bool, nat_lt, Option, Some, None, List, [], ◌∷◌, length, take, map, filter, slice_index, if◌then◌else◌}
+use Rattle.vfs_base.specs.declared.limits.TheConstants.{DECK_MAX}
 
 -- the byte put in front of the first line
 abbrev pub onto_first : ℕ → List (List ℕ) → List (List ℕ)
@@ -51,3 +52,14 @@ first_bad_from number size (raw ∷ raws) = if is_bad_line size raw then Some nu
 -- the number of the first line of an input that is outside the form, counted from 1
 abbrev pub first_bad_line : List ℕ → Option ℕ
 first_bad_line input = first_bad_from 1 0 (raw_lines input)
+
+-- the number of the first of these lines in which the byte after the greatest size lies; they come after so many bytes
+abbrev pub past_size_from : ℕ → ℕ → List (List ℕ) → Option ℕ
+past_size_from number size [] = None
+past_size_from number size (raw ∷ raws) =
+    if nat_lt DECK_MAX (size + length raw) then Some number else past_size_from (number + 1) (size + length raw) raws
+
+-- the number of the line that has the byte after the greatest size, counted from 1: all that an input must keep whose lines are not
+-- looked at
+abbrev pub first_line_past_size : List ℕ → Option ℕ
+first_line_past_size input = past_size_from 1 0 (raw_lines input)

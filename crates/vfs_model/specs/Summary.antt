@@ -1,5 +1,5 @@
 -- What stands behind a transcript: the calls of each volume. And what a soak shows in place of its transcript.
-use Rattle.std.specs.Prelude.{ℕ, ◌-◌, Option, option_map, List, [], ◌∷◌, ◌++◌, length, codes}
+use Rattle.std.specs.Prelude.{ℕ, ◌-◌, Option, option_map, List, [], ◌∷◌, ◌++◌, length, codes, ◌==◌, ◌&&◌, Some, None, if◌then◌else◌}
 use Rattle.std.specs.Fmt.{decimal}
 use Rattle.vfs_base.specs.declared.describe.Counts.{Counts}
 use Rattle.vfs_base.specs.declared.describe.Describe.{Describe}
@@ -37,3 +37,13 @@ soak_text seed count entries bytes =
 unfoldable pub soak_summary : ℕ → ℕ → Describe → List Entry → Option (List ℕ)
 soak_summary seed count describe schedule =
     option_map (λ text. soak_text seed count (length schedule) (length text)) (shown form.Replay (soak_deck seed count) describe schedule)
+
+-- the lines of all volumes, where each has its two counts
+abbrev pub volume_report : List VolumeShape → List Counts → List Counts → Option (List ℕ)
+volume_report volumes before now =
+    if length before == length volumes && length now == length volumes then Some (volume_lines volumes before now) else None
+
+-- what a run writes that nothing ends early: the transcript or the soak's summary, and behind it the lines of the volumes
+abbrev pub job_text : Option (List ℕ) → Option (List ℕ) → Option (List ℕ)
+job_text None report = None
+job_text (Some text) report = option_map (λ lines. text ++ lines) report

@@ -1,10 +1,13 @@
 //! The laws of the definitions: each function states one, and does nothing.
 
+ghost use Rattle.vfs_model.specs.CacheLaws.{FailedCallStopsStep, RefusedStepCallsNoDevice};
 ghost use Rattle.vfs_model.specs.ConsistencyLaws.{OpeningWorldIsConsistent, StandingMountsAreApart};
 ghost use Rattle.vfs_model.specs.DeckLaws.{ReadScriptIsInForm};
 ghost use Rattle.vfs_model.specs.DescriptorLaws.{StaysSound};
 ghost use Rattle.vfs_model.specs.ShellLaws.{AddedMappingGoesBack, DupSharesFile, LineTakesReplies, WholeLinesEnd};
 ghost use Rattle.vfs_model.specs.Laws.{RefusedStepChangesNothing, WorkerChangesNothing, CoveringMountIsLongest, RefusedWorldStaysSame, PutNodeStands, TakenNodeIsGone, NormalPathHasNormalNames, PrintedPathNamesItself, MountShowsItsTree, UnmountLeavesOtherMounts, MovedSubtreeStands, RenamedSubtreeStands, EmptyMountChangesNoNode};
+ghost use Rattle.vfs_model.specs.RowShape.{RefusalsNeedNoBytes};
+ghost use Rattle.vfs_model.specs.Tally.{AskedStepsLeadOn};
 ghost use Rattle.vfs_model.specs.TranscriptLaws.{PrintedScheduleIsRead, ReadScheduleIsPrinted, TranscriptNeedsEachEntry, UndefinedTranscriptHasPlace, FrontHasTranscript, WholeScheduleEndsLast, ScriptSaysTurns, EachBlockShowsItsLine, ShownBlocksStay, PendingStepIsWanted, ScriptGoesOn};
 
 /// A step of the namespace that is refused changes neither the namespace nor a row; Shutdown apart.
@@ -165,4 +168,24 @@ pub fn added_mapping_goes_back()
 /// The open files of a shell are sound at the start, and stay so: a file is open exactly where a descriptor leads to it.
 pub fn open_files_stay_sound()
     ensures { StaysSound }
+{}
+
+/// No byte of a file decides what its steps are refused with.
+pub fn refusals_need_no_bytes()
+    ensures { RefusalsNeedNoBytes }
+{}
+
+/// A step of a file that is refused calls no device.
+pub fn refused_step_calls_no_device()
+    ensures { RefusedStepCallsNoDevice }
+{}
+
+/// A call of a device that fails stops its step exactly where the step makes it, behind the calls before it.
+pub fn failed_call_stops_step()
+    ensures { FailedCallStopsStep }
+{}
+
+/// The steps that a schedule stands for lead to where its script stands after it.
+pub fn asked_steps_lead_on()
+    ensures { AskedStepsLeadOn }
 {}
