@@ -50,6 +50,7 @@ pub mod SharedFileExamples
 pub mod ShellExamples
 pub mod ShellRuns
 pub mod ShellTables
+pub mod SmallCaches
 pub mod SoundDescriptors
 pub mod StoppedCalls
 pub mod TallyExamples

@@ -1,6 +1,6 @@
 //! The laws of the definitions: each function states one, and does nothing.
 
-ghost use Rattle.vfs_model.specs.CacheLaws.{FailedCallStopsStep, RefusedStepCallsNoDevice};
+ghost use Rattle.vfs_model.specs.CacheLaws.{CacheStaysSmall, CallsAddUp, FailedCallStopsStep, ReclaimLeavesFew, RefusedStepCallsNoDevice, WriteBackLeavesNoneDirty};
 ghost use Rattle.vfs_model.specs.ConsistencyLaws.{OpeningWorldIsConsistent, StandingMountsAreApart};
 ghost use Rattle.vfs_model.specs.DeckLaws.{ReadScriptIsInForm};
 ghost use Rattle.vfs_model.specs.DescriptorLaws.{StaysSound};
@@ -188,4 +188,24 @@ pub fn failed_call_stops_step()
 /// The steps that a schedule stands for lead to where its script stands after it.
 pub fn asked_steps_lead_on()
     ensures { AskedStepsLeadOn }
+{}
+
+/// A step leaves at most 32 pages of a file in memory and none twice, also where a failed call stops it.
+pub fn cache_stays_small()
+    ensures { CacheStaysSmall }
+{}
+
+/// After a reclaim at most 8 pages of a file are in memory.
+pub fn reclaim_leaves_few()
+    ensures { ReclaimLeavesFew }
+{}
+
+/// After a write-back no page in memory is dirty.
+pub fn write_back_leaves_none_dirty()
+    ensures { WriteBackLeavesNoneDirty }
+{}
+
+/// The calls of steps that are taken one after the other add up.
+pub fn calls_add_up()
+    ensures { CallsAddUp }
 {}
