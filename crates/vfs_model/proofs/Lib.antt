@@ -64,3 +64,4 @@ pub mod TurnProgress
 pub mod UntakenLemmas
 pub mod WorkerLaws
 pub mod WorldLaws
+pub mod WrittenBytes

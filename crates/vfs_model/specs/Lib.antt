@@ -18,6 +18,7 @@ pub mod DescriptorLaws
 pub mod FailedCalls
 pub mod FaultCounts
 pub mod FileCommands
+pub mod FileLaws
 pub mod FileLife
 pub mod FileMoves
 pub mod FileStep

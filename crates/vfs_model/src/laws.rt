@@ -6,6 +6,7 @@ ghost use Rattle.vfs_model.specs.DeckLaws.{ReadScriptIsInForm};
 ghost use Rattle.vfs_model.specs.DescriptorLaws.{StaysSound};
 ghost use Rattle.vfs_model.specs.ShellLaws.{AddedMappingGoesBack, DupSharesFile, LineTakesReplies, WholeLinesEnd};
 ghost use Rattle.vfs_model.specs.Laws.{RefusedStepChangesNothing, WorkerChangesNothing, CoveringMountIsLongest, RefusedWorldStaysSame, PutNodeStands, TakenNodeIsGone, NormalPathHasNormalNames, PrintedPathNamesItself, MountShowsItsTree, UnmountLeavesOtherMounts, MovedSubtreeStands, RenamedSubtreeStands, EmptyMountChangesNoNode};
+ghost use Rattle.vfs_model.specs.FileLaws.{StepChangesOneFile, WriteMovesItsPiece, WrittenIsRead};
 ghost use Rattle.vfs_model.specs.RowShape.{RefusalsNeedNoBytes};
 ghost use Rattle.vfs_model.specs.Tally.{AskedStepsLeadOn};
 ghost use Rattle.vfs_model.specs.TranscriptLaws.{PrintedScheduleIsRead, ReadScheduleIsPrinted, TranscriptNeedsEachEntry, UndefinedTranscriptHasPlace, FrontHasTranscript, WholeScheduleEndsLast, ScriptSaysTurns, EachBlockShowsItsLine, ShownBlocksStay, PendingStepIsWanted, ScriptGoesOn};
@@ -208,4 +209,19 @@ pub fn write_back_leaves_none_dirty()
 /// The calls of steps that are taken one after the other add up.
 pub fn calls_add_up()
     ensures { CallsAddUp }
+{}
+
+/// A write leaves its piece at its offset, zeros in a gap before it, and every other byte as it was.
+pub fn write_moves_its_piece()
+    ensures { WriteMovesItsPiece }
+{}
+
+/// A piece that was written whole is read again.
+pub fn written_is_read()
+    ensures { WrittenIsRead }
+{}
+
+/// A step of one file changes no other file, no name and nothing that lies at home.
+pub fn step_changes_one_file()
+    ensures { StepChangesOneFile }
 {}
