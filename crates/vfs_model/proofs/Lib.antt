@@ -35,6 +35,7 @@ pub mod MovedLaws
 pub mod NodeLaws
 pub mod NormalPaths
 pub mod OpeningLaws
+pub mod PageSets
 pub mod RefusalExamples
 pub mod RefusedSteps
 pub mod RenameLaws

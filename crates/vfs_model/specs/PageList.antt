@@ -1,6 +1,7 @@
 -- The bytes of a file on a cell: what is in memory, before what lies on the device.
-use Rattle.std.specs.Prelude.{◌≡◌, ℕ, ◌+◌, ◌-◌, ◌*◌, ◌^◌, ◌≤◌, ◌==◌, Bool, false, Option, Some, None, List, map, filter, find, take, drop, replicate, if◌then◌else◌}
-use Rattle.std.specs.List.{concat, list_any, range_with_len, sum_by}
+use Rattle.std.specs.Prelude.{◌≡◌, ℕ, ◌+◌, ◌-◌, ◌*◌, ◌^◌, ◌<◌, ◌≤◌, ◌==◌, Bool, false, [], ◌∷◌, length, slice_index_or, Option, Some, None, List, map, filter, find, take, drop, replicate, if◌then◌else◌}
+use Rattle.std.specs.List.{concat, list_any, range_with_len}
+use Rattle.std.specs.Simd.Lanes.{mask_l}
 use Rattle.vfs_base.specs.declared.limits.TheConstants.{CELL_PAGES_MAX, PAGE_SIZE}
 use Rattle.vfs_model.specs.Cache.{is_resident, is_stored}
 use Rattle.vfs_model.specs.WrittenBack.{has_page}
@@ -55,10 +56,28 @@ pub record TailIsZeros (space : SpaceState) (on_device : ℕ → List ℕ) (coun
 abbrev pub stored_pages : List ℕ → List ℕ
 stored_pages words = filter (has_page words) (range_with_len 0 CELL_PAGES_MAX)
 
--- a page's place in its word of the set, where it is in it
-abbrev pub page_bit : List ℕ → ℕ → ℕ → ℕ
-page_bit pages word bit = if list_any (λ page. page == 64 * word + bit) pages then 2 ^ bit else 0
+abbrev pub is_among : List ℕ → ℕ → Bool
+is_among pages page = list_any (λ other. other == page) pages
 
--- the set of these pages: a bit for each page, 64 of them in each of sixteen words
+-- for each page of a word of the set, whether it is among these
+abbrev pub word_pages : List ℕ → ℕ → List Bool
+word_pages pages word = map (λ bit. is_among pages (64 * word + bit)) (range_with_len 0 64)
+
+-- the set of these pages: sixteen words of 64 bits, one for each page
 abbrev pub stored_words : List ℕ → List ℕ
-stored_words pages = map (λ word. sum_by (page_bit pages word) (range_with_len 0 64)) (range_with_len 0 16)
+stored_words pages = map (λ word. mask_l (word_pages pages word)) (range_with_len 0 16)
+
+-- pages in rising order, from one on and below another
+abbrev pub IsRising : ℕ → ℕ → List ℕ → Type 0
+IsRising low high [] = Unit {0}
+IsRising low high (page ∷ pages) = (low ≤ page) × (page < high) × IsRising (page + 1) high pages
+
+-- sixteen words of 64 bits
+pub record IsPageSet (words : List ℕ) : Type 0 where
+  pub count : length words ≡ 16
+  pub bits : (word : ℕ) → slice_index_or words word 0 < 2 ^ 64
+
+-- the stored pages in rising order and the words of the set tell the same
+pub record WordsTellPages : Type 0 where
+  pub pages : (pages : List ℕ) → IsRising 0 CELL_PAGES_MAX pages → stored_pages (stored_words pages) ≡ pages
+  pub words : (words : List ℕ) → IsPageSet words → stored_words (stored_pages words) ≡ words

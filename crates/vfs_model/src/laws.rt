@@ -7,6 +7,7 @@ ghost use Rattle.vfs_model.specs.DescriptorLaws.{StaysSound};
 ghost use Rattle.vfs_model.specs.ShellLaws.{AddedMappingGoesBack, DupSharesFile, LineTakesReplies, WholeLinesEnd};
 ghost use Rattle.vfs_model.specs.Laws.{RefusedStepChangesNothing, WorkerChangesNothing, CoveringMountIsLongest, RefusedWorldStaysSame, PutNodeStands, TakenNodeIsGone, NormalPathHasNormalNames, PrintedPathNamesItself, MountShowsItsTree, UnmountLeavesOtherMounts, MovedSubtreeStands, RenamedSubtreeStands, EmptyMountChangesNoNode};
 ghost use Rattle.vfs_model.specs.FileLaws.{StepChangesOneFile, WriteMovesItsPiece, WrittenIsRead};
+ghost use Rattle.vfs_model.specs.PageList.{WordsTellPages};
 ghost use Rattle.vfs_model.specs.RowShape.{RefusalsNeedNoBytes};
 ghost use Rattle.vfs_model.specs.Tally.{AskedStepsLeadOn};
 ghost use Rattle.vfs_model.specs.TranscriptLaws.{PrintedScheduleIsRead, ReadScheduleIsPrinted, TranscriptNeedsEachEntry, UndefinedTranscriptHasPlace, FrontHasTranscript, WholeScheduleEndsLast, ScriptSaysTurns, EachBlockShowsItsLine, ShownBlocksStay, PendingStepIsWanted, ScriptGoesOn};
@@ -224,4 +225,9 @@ pub fn written_is_read()
 /// A step of one file changes no other file, no name and nothing that lies at home.
 pub fn step_changes_one_file()
     ensures { StepChangesOneFile }
+{}
+
+/// The stored pages of a file in rising order, and the sixteen words of their set, tell the same.
+pub fn words_tell_pages()
+    ensures { WordsTellPages }
 {}
