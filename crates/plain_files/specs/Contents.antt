@@ -14,4 +14,5 @@ origin_content roms (origin.Rom place path) =
     rom_node_bytes (value_at path_cmp path (slice_index_or roms place no_rom).nodes)
 origin_content roms origin.Empty = []
 origin_content roms (origin.Cell volume cell) = []
+origin_content roms (origin.NewCell volume cell) = []
 origin_content roms (origin.Device device) = []

@@ -19,7 +19,7 @@ pub fn origin_content<'a>(roms: &'a [RomImage], origin: &Origin) -> &'a [u8]
             Some(image) => node_bytes(value_at(path, image.nodes.as_slice())),
             None => &[],
         },
-        Origin::Empty | Origin::Cell { .. } | Origin::Device { .. } => &[],
+        Origin::Empty | Origin::Cell { .. } | Origin::NewCell { .. } | Origin::Device { .. } => &[],
     }
 }
 

@@ -96,6 +96,12 @@ fn begin_file(
             capacity: cell_capacity(&world.namespace, *volume, *cell),
             bytes: replace_cell(&mut world.homes.cells, alloc, *volume, *cell, content),
         },
+        Origin::NewCell { volume, cell } => FileState::Bytes {
+            generation,
+            kind: Kind::Cell,
+            capacity: cell_capacity(&world.namespace, *volume, *cell),
+            bytes: content,
+        },
         Origin::Device { device } => {
             let home = replace(&mut world.homes.devices, alloc, *device, no_home(alloc));
             FileState::Device {

@@ -118,7 +118,7 @@ fn origin_backing(origin: &Origin) -> Backing
     match origin {
         Origin::Empty => Backing::Memory,
         Origin::Rom { .. } => Backing::Memory,
-        Origin::Cell { volume, cell } => Backing::Cell {
+        Origin::Cell { volume, cell } | Origin::NewCell { volume, cell } => Backing::Cell {
             volume: *volume,
             cell: *cell,
         },

@@ -269,7 +269,7 @@ fn new_origin(backing: &Backing) -> Origin
 {
     match backing {
         Backing::Memory => Origin::Empty,
-        Backing::Cell { volume, cell } => Origin::Cell {
+        Backing::Cell { volume, cell } => Origin::NewCell {
             volume: *volume,
             cell: *cell,
         },

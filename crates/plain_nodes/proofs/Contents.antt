@@ -14,6 +14,7 @@ no_rom_no_bytes : (roms : List RomImage) (begins : Origin) → is_no_rom begins 
 no_rom_no_bytes roms origin.Empty e = refl
 no_rom_no_bytes roms (origin.Rom place path) e = absurd (cc (e))
 no_rom_no_bytes roms (origin.Cell volume cell) e = refl
+no_rom_no_bytes roms (origin.NewCell volume cell) e = refl
 no_rom_no_bytes roms (origin.Device device) e = refl
 
 pub no_bytes_brought : (roms : List RomImage) (told : Change) → brings_no_bytes told ≡ true → change_content roms (row_change told) ≡ []

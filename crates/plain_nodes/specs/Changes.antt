@@ -29,6 +29,7 @@ abbrev pub is_no_rom : Origin → Bool
 is_no_rom origin.Empty = true
 is_no_rom (origin.Rom place path) = false
 is_no_rom (origin.Cell volume cell) = true
+is_no_rom (origin.NewCell volume cell) = true
 is_no_rom (origin.Device device) = true
 
 -- the change brings no bytes from a rom

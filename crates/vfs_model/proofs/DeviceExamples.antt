@@ -13,10 +13,11 @@ use Rattle.vfs_base.specs.declared.reply.Reply.TheVariants as reply
 use Rattle.vfs_base.specs.declared.step.Step.TheVariants as step
 use Rattle.vfs_model.proofs.ExampleSteps.{asks, asks_stopped, bare, bare_replies, ends, file_entry, hold, id, no, r, rw_creat, steps, to_append}
 use Rattle.vfs_model.specs.Asking.{Asked, run_steps}
-use Rattle.vfs_model.specs.Homes.{opening_world}
+use Rattle.vfs_model.specs.Homes.{opening_world, with_cell_bytes}
 use Rattle.vfs_model.specs.declared.namespace.RomImage.{RomImage}
 use Rattle.vfs_model.specs.declared.namespace.RomNode.TheVariants as rom
 use Rattle.vfs_model.specs.declared.world.DeviceHome.{DeviceHome}
+use Rattle.vfs_model.specs.declared.world.World.{World}
 
 -- the rom `boot`: a folder with two files
 abbrev pub boot : RomImage
@@ -272,3 +273,14 @@ pub want_of_memory_moves_no_byte : bare_replies (
     ∷ reply.Listing [] (file_entry (codes "f") (id 1 1) kind.Tmp ∷ []) ∷ []
 unfolding steps
 want_of_memory_moves_no_byte = refl
+
+-- bytes that lie on a cell at home are no file's: a file that is made there begins with nothing
+pub a_new_file_begins_with_nothing : (
+    let start : World = opening_world [] (sd0 (4 ∷ [])) in
+    (run_steps (record start { homes = with_cell_bytes start.homes 0 0 (codes "abc") }) (on_volume (
+    asks 1 (step.Open (codes "/v/f") rw_creat)
+    ∷ asks 1 (step.Size (id 1 1))
+    ∷ []
+    ))).replies) ≡ reply.Done ∷ reply.Done ∷ reply.Opened (hold 1 1) (id 1 1) kind.Cell ∷ reply.SizeIs 0 ∷ []
+unfolding steps
+a_new_file_begins_with_nothing = refl

@@ -87,6 +87,7 @@ bound_file w generation (origin.Rom place path) =
     file.Bytes generation kind.Rom (length bytes) bytes
 bound_file w generation (origin.Cell volume cell) =
     file.Bytes generation kind.Cell (cell_capacity w.namespace volume cell) (cell_bytes w.homes volume cell)
+bound_file w generation (origin.NewCell volume cell) = file.Bytes generation kind.Cell (cell_capacity w.namespace volume cell) []
 bound_file w generation (origin.Device device) =
     let home = device_home w.homes device in
     file.Device generation home.input home.output
@@ -96,6 +97,7 @@ abbrev pub homes_after_bind : Homes → Origin → Homes
 homes_after_bind homes origin.Empty = homes
 homes_after_bind homes (origin.Rom place path) = homes
 homes_after_bind homes (origin.Cell volume cell) = with_cell_bytes homes volume cell []
+homes_after_bind homes (origin.NewCell volume cell) = homes
 homes_after_bind homes (origin.Device device) = with_device_home homes device no_home
 
 abbrev pub bytes_of : FileState → List ℕ

@@ -93,6 +93,7 @@ io_row w io row asked (backing.Device device) = io
 abbrev pub io_bind : IoState → ℕ → Origin → IoState
 io_bind io row (origin.Cell volume cell) =
     with_stored (with_cache io row (record { resident = []; stored = stored_on io volume cell })) volume cell []
+io_bind io row (origin.NewCell volume cell) = with_cache io row empty_cache
 io_bind io row origin.Empty = io
 io_bind io row (origin.Rom place path) = io
 io_bind io row (origin.Device device) = io

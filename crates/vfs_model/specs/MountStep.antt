@@ -59,6 +59,7 @@ abbrev pub origin_backing : Origin → Backing
 origin_backing origin.Empty = backing.Memory
 origin_backing (origin.Rom place path) = backing.Memory
 origin_backing (origin.Cell volume cell) = backing.Cell volume cell
+origin_backing (origin.NewCell volume cell) = backing.Cell volume cell
 origin_backing (origin.Device device) = backing.Device device
 
 -- a node is put into the tree of a mount

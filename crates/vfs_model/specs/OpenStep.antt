@@ -101,7 +101,7 @@ new_backing n mount fs.Dev = backing.Memory
 -- what a new file begins with
 abbrev pub new_origin : Backing → Origin
 new_origin backing.Memory = origin.Empty
-new_origin (backing.Cell volume cell) = origin.Cell volume cell
+new_origin (backing.Cell volume cell) = origin.NewCell volume cell
 new_origin (backing.Device device) = origin.Device device
 
 -- the live file that is made at a path

@@ -131,8 +131,10 @@ pub enum Origin {
     Empty,
     /// The bytes of a rom's file; roms are counted from 0.
     Rom { rom: usize, path: Path },
-    /// What lies on a volume's cell; no bytes where the cell was spare.
+    /// The bytes of a file that its volume kept on this cell; volumes and their cells are counted from 0.
     Cell { volume: usize, cell: usize },
+    /// No bytes, on a cell that was spare.
+    NewCell { volume: usize, cell: usize },
     /// What a character device has left and has taken.
     Device { device: usize },
 }

@@ -49,6 +49,7 @@ abbrev pub Begins : LiveFile → Origin → Type 0
 Begins life origin.Empty = (life.kind ≡ kind.Tmp) × (life.backing ≡ backing.Memory)
 Begins life (origin.Rom place path) = (life.kind ≡ kind.Rom) × (life.backing ≡ backing.Memory)
 Begins life (origin.Cell volume cell) = (life.kind ≡ kind.Cell) × (life.backing ≡ backing.Cell volume cell)
+Begins life (origin.NewCell volume cell) = (life.kind ≡ kind.Cell) × (life.backing ≡ backing.Cell volume cell)
 Begins life (origin.Device device) = (life.kind ≡ kind.Chr) × (life.backing ≡ backing.Device device)
 
 bytes-agree : (life : LiveFile) (generation capacity : ℕ) (k : Kind) (bytes : List ℕ) → life.kind ≡ k → not (same_kind k kind.Chr) ≡ true → length bytes ≤ capacity →
@@ -71,6 +72,8 @@ bound-agrees v generation life (origin.Rom place path) b home =
     bytes-agree life generation (length (rom_bytes v.namespace place path)) kind.Rom (rom_bytes v.namespace place path) b.0 refl (omega arith)
 bound-agrees v generation life (origin.Cell volume cell) b home =
     bytes-agree life generation (cell_capacity v.namespace volume cell) kind.Cell (cell_bytes v.homes volume cell) b.0 refl (home volume cell)
+bound-agrees v generation life (origin.NewCell volume cell) b home =
+    bytes-agree life generation (cell_capacity v.namespace volume cell) kind.Cell [] b.0 refl (omega arith)
 bound-agrees v generation life (origin.Device device) b home =
     and-both (generation == generation) (same_kind life.kind kind.Chr) (number-itself generation) (ap (λ x. same_kind x kind.Chr) b.0)
 
@@ -97,6 +100,11 @@ bound-fits : (v : World) (generation : ℕ) (life : LiveFile) (begins : Origin) 
     file_capacity (bound_file v generation begins) ≤ cell_capacity v.namespace volume cell
 bound-fits v generation life origin.Empty volume cell b e = absurd (no-cell volume cell (sym b.1 ∙ e))
 bound-fits v generation life (origin.Rom place path) volume cell b e = absurd (no-cell volume cell (sym b.1 ∙ e))
+bound-fits v generation life (origin.NewCell w d) volume cell b e =
+    let same = cell-volume w d volume cell (sym b.1 ∙ e) in
+    let equal : cell_capacity v.namespace w d ≡ cell_capacity v.namespace volume cell =
+    ap (λ x. cell_capacity v.namespace x d) same.0 ∙ ap (λ x. cell_capacity v.namespace volume x) same.1 in
+    omega (arith, equal)
 bound-fits v generation life (origin.Device device) volume cell b e = absurd (no-device device volume cell (sym b.1 ∙ e))
 bound-fits v generation life (origin.Cell w d) volume cell b e =
     let same = cell-volume w d volume cell (sym b.1 ∙ e) in
@@ -119,6 +127,7 @@ bound-home : (v : World) (begins : Origin) → ((w d : ℕ) → length (cell_byt
 bound-home v origin.Empty home = home
 bound-home v (origin.Rom place path) home = home
 bound-home v (origin.Cell volume cell) home = home-set v volume cell [] (omega arith) home
+bound-home v (origin.NewCell volume cell) home = home
 bound-home v (origin.Device device) home = home
 
 -- what agrees hangs on lives and generations, which taking and giving back cells and devices leaves

@@ -77,6 +77,7 @@ module _ (mount : Mount) where
   FitsOrigin m p origin.Empty = ⊥
   FitsOrigin m p (origin.Rom place path) = mount.fs ≡ fs.Rom
   FitsOrigin m p (origin.Cell volume cell) = (mount.fs ≡ fs.Cell) × (volume ≡ volume_named m mount.source)
+  FitsOrigin m p (origin.NewCell volume cell) = ⊥
   FitsOrigin m p (origin.Device device) =
       (mount.fs ≡ fs.Dev) × (device < length m.devices) × ((slice_index_or m.devices device no_device).is_out ≡ false) × (p ≡ (slice_index_or m.devices device no_device).name ∷ [])
 
@@ -254,18 +255,21 @@ module _ (mount : Mount) where
   -- the life of a file that is bound now
   pub begins-fit : (m : Namespace) (p : Path) (begins : Origin) → FitsOrigin m p begins → Begins (life_of begins) begins
   begins-fit m p origin.Empty f = absurd f
+  begins-fit m p (origin.NewCell volume cell) f = absurd f
   begins-fit m p (origin.Rom place path) f = (ap kind_of f, refl)
   begins-fit m p (origin.Cell volume cell) f = (ap kind_of f.0, refl)
   begins-fit m p (origin.Device device) f = (ap kind_of f.0, refl)
 
   kind-fits : (m : Namespace) (p : Path) (begins : Origin) → FitsOrigin m p begins → fits_kind (Some (life_of begins)) ≡ true
   kind-fits m p origin.Empty f = absurd f
+  kind-fits m p (origin.NewCell volume cell) f = absurd f
   kind-fits m p (origin.Rom place path) f = ap (λ t. fits_kind (Some (record { kind = kind_of t; mount = mount.number; backing = backing.Memory }))) f
   kind-fits m p (origin.Cell volume cell) f = ap (λ t. fits_kind (Some (record { kind = kind_of t; mount = mount.number; backing = backing.Cell volume cell }))) f.0
   kind-fits m p (origin.Device device) f = ap (λ t. fits_kind (Some (record { kind = kind_of t; mount = mount.number; backing = backing.Device device }))) f.0
 
   mount-fits : (m : Namespace) (p : Path) (begins : Origin) → FitsOrigin m p begins → fits_mount m (life_of begins) mount ≡ true
   mount-fits m p origin.Empty f = absurd f
+  mount-fits m p (origin.NewCell volume cell) f = absurd f
   mount-fits m p (origin.Rom place path) f = and-both (same_kind (kind_of mount.fs) (kind_of mount.fs)) true (kind-itself (kind_of mount.fs)) refl
   mount-fits m p (origin.Device device) f = and-both (same_kind (kind_of mount.fs) (kind_of mount.fs)) true (kind-itself (kind_of mount.fs)) refl
   mount-fits m p (origin.Cell volume cell) f =
@@ -285,9 +289,11 @@ module _ (mount : Mount) where
 
   still-fits : (m : Namespace) (p q : Path) (begins other : Origin) → p ≢ q → FitsOrigin m p begins → FitsOrigin m q other → FitsOrigin (after_taking m (origin_backing begins)) q other
   still-fits m p q begins origin.Empty apart f g = g
+  still-fits m p q begins (origin.NewCell volume cell) apart f g = g
   still-fits m p q begins (origin.Rom place path) apart f g = g
   still-fits m p q begins (origin.Cell volume cell) apart f g = (g.0, g.1 ∙ sym (volume-named m (origin_backing begins) mount.source))
   still-fits m p q origin.Empty (origin.Device device) apart f g = g
+  still-fits m p q (origin.NewCell volume cell) (origin.Device device) apart f g = g
   still-fits m p q (origin.Rom place path) (origin.Device device) apart f g = g
   still-fits m p q (origin.Cell volume cell) (origin.Device device) apart f g = g
   still-fits m p q (origin.Device one) (origin.Device device) apart f g =
@@ -380,6 +386,7 @@ module _ (mount : Mount) where
   devices-filled : (m : Namespace) (row : ℕ) (begins : Origin) (p : Path) (generations : List ℕ) → row - 1 < length m.lives → life_at m row ≡ None → FitsOrigin m p begins → DevicesPlaced m →
       DevicesPlaced (after_taking (with_life m row (Some (life_of begins)) generations) (origin_backing begins))
   devices-filled m row origin.Empty p generations l free f devices = absurd f
+  devices-filled m row (origin.NewCell volume cell) p generations l free f devices = absurd f
   devices-filled m row (origin.Rom place path) p generations l free f devices = devices-taken m row (life_of (origin.Rom place path)) generations l free tt devices backing.Memory refl
   devices-filled m row (origin.Cell volume cell) p generations l free f devices = λ device d. devices-same m row (life_of (origin.Cell volume cell)) device l free refl devices d
   devices-filled m row (origin.Device device) p generations l free f devices = devices-taken m row (life_of (origin.Device device)) generations l free (f.1, f.2) devices (backing.Device device) refl
