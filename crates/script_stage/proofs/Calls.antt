@@ -1,6 +1,6 @@
 -- What a stage's calls come to.
-use Rattle.std.proofs.Common.{◌≡◌, ℕ, ◌-◌, ◌<◌, Bool, true, false, Some, None, Ok, Err, List, [], ◌∷◌, ◌++◌, length, set, get_or, sym, ap, ◌∙◌, subst, arith, append_assoc, length-append}
-use Rattle.std.specs.Prelude.{◌≤◌, ◌^◌, OnErr, Result, is_none, slice_get}
+use Rattle.std.proofs.Common.{◌≡◌, ℕ, ◌-◌, ◌<◌, Bool, true, false, Option, Some, None, Ok, Err, List, [], ◌∷◌, ◌++◌, length, set, get_or, sym, ap, ◌∙◌, subst, arith, append_assoc, length-append}
+use Rattle.std.specs.Prelude.{◌≤◌, ◌^◌, IfNone, IfSome, OnErr, Result, is_none, slice_get}
 use Rattle.std.proofs.lemmas.List.{set-get_or}
 use Rattle.std.specs.Bool.{OnFalse, OnTrue}
 use Rattle.std.proofs.lemmas.Option.{slice_get_read}
@@ -12,12 +12,12 @@ use Rattle.vfs_base.specs.declared.reply.Reply.{Reply}
 use Rattle.vfs_base.specs.declared.step.Step.{Step}
 use Rattle.vfs_model.specs.Turns.{Leaves, Posts, RunOut, Steps, Task}
 use Rattle.vfs_model.specs.declared.world.World.{World}
-use Rattle.msh_session.specs.SessionTalks.{exits_left, session_rest}
 use Rattle.script_stage.proofs.Ending.{exit-stops, work-stops}
 use Rattle.script_stage.proofs.Moving.{got-other, got-same, other-place, passes-event, passes-exit, passes-run, posts-line}
 use Rattle.script_stage.proofs.Turning.{IsExit, exit-moves, turn_taken, work-moves}
 use Rattle.script_stage.specs.Scenes.{IsNumber, Scene}
-use Rattle.script_stage.specs.Sessions.{FollowsExit, FollowsLine, FollowsReply, is_through}
+use Rattle.script_stage.specs.SessionTurns.{StaysThrough, TakesExit, TakesWanted}
+use Rattle.script_stage.specs.Sessions.{FollowsLine, is_through}
 use Rattle.script_stage.specs.Standing.{Breaks, Does, Grows, IsAsking, IsIdle, IsThrough, IsWork, Leads, LeavesAt, OthersStay, StandsAt, Stops, TakesTurn}
 use Rattle.script_stage.specs.declared.phase.Phase.{Phase}
 use Rattle.script_stage.specs.declared.phase.Phase.TheVariants as phase
@@ -79,6 +79,12 @@ pub err_of : {T E P : Type 0} (r : Result T E) → P → OnErr r P
 err_of (Ok x) p = tt
 err_of (Err e) p = p
 
+pub some_of : {T : Type 0} (o : Option T) (x : T) (P : T → Type 0) → o ≡ Some x → IfSome o P → P x
+some_of o x P e h = subst (λ y. IfSome y P) e h
+
+pub none_of : {T : Type 0} (o : Option T) (P : Type 0) → o ≡ None → IfNone o P → P
+none_of o P e h = subst (λ y. IfNone y P) e h
+
 -- the session that changed is idle as before
 pub idle_stays : (old new : List StageSession) (k place : ℕ) (after : StageSession) → IsNumber k → place ≡ k - 1 → length old ≡ 8 → after.phase ≡ phase.Idle → new ≡ set old place after → IsIdle new k
 idle_stays old new k place after n e count idle is p found =
@@ -107,43 +113,35 @@ post_call now old k place before after line same n e h count is follows =
     subst (λ s. Does s (record { world = old.world; sessions = set old.sessions place after; schedule = old.schedule }) (Posts k line ∷ [])) same
     (post_done old k place before after line n e (slice_get_read old.sessions 8 place before (sym count) h is) follows)
 
+-- the session is at what it is known to be at
+pub asking_at : (now old : Scene) (k place : ℕ) (before : StageSession) → old ≡ now → place ≡ k - 1 → place < 8 → length old.sessions ≡ 8 →
+    before ≡ get_or old.sessions place before → IsAsking now.sessions k → before.phase ≡ phase.Asking
+asking_at now old k place before same e h count is asking =
+    asking before (ap (λ s. slice_get s.sessions (k - 1)) (sym same) ∙ found_at old.sessions k place before e h count is)
+
 -- a call that takes a pending command's step
-pub turn_call : (now old new : Scene) (next : World) (k place : ℕ) (before after : StageSession) (m : Mark) (reply : Reply) (asked : Step) → old ≡ now → IsNumber k →
+pub turn_call : (now old new : Scene) (next : World) (k place : ℕ) (before after : StageSession) (m : Mark) → old ≡ now → IsNumber k →
     place ≡ k - 1 → place < 8 → length old.sessions ≡ 8 → before ≡ get_or old.sessions place before → IsAsking now.sessions k →
-    (session_rest before.session [] []).wanted ≡ Some asked → TakesStep old.world next (who.Session k) asked (reply, m) → FollowsReply before after reply →
+    TakesWanted before after old.world next k m →
     new ≡ record { world = next; sessions = set old.sessions place after; schedule = old.schedule ++ record { who = who.Session k; mark = m } ∷ [] } →
     TakesTurn now new k
-turn_call now old new next k place before after m reply asked same n e h count is asking wanted takes follows new-is =
-    let found = found_at old.sessions k place before e h count is in
+turn_call now old new next k place before after m same n e h count is asking taken new-is =
     subst (λ s. TakesTurn s new k) same
     (turn_taken old new next k place before after m e (record {
       number = n;
-      found = found;
-      asking = asking before (ap (λ s. slice_get s.sessions (k - 1)) (sym same) ∙ found);
-      asked = asked;
-      reply = reply;
-      wanted = wanted;
-      takes = takes;
-      follows = follows;
+      found = found_at old.sessions k place before e h count is;
+      asking = asking_at now old k place before same e h count is asking;
+      taken = taken;
     }) new-is)
 
 -- a call that makes an exit step
-pub exit_call : (now old new : Scene) (next : World) (k place : ℕ) (before after : StageSession) (m : Mark) (reply : Reply) (asked : Step) → old ≡ now → IsNumber k →
-    place ≡ k - 1 → place < 8 → length old.sessions ≡ 8 → before ≡ get_or old.sessions place before →
-    slice_get (exits_left before.session) 0 ≡ Some asked → TakesStep old.world next (who.Session k) asked (reply, m) → FollowsExit before after →
+pub exit_call : (now old new : Scene) (next : World) (k place : ℕ) (before after : StageSession) (m : Mark) → old ≡ now → IsNumber k →
+    place ≡ k - 1 → place < 8 → length old.sessions ≡ 8 → before ≡ get_or old.sessions place before → TakesExit before after old.world next k m →
     new ≡ record { world = next; sessions = set old.sessions place after; schedule = old.schedule ++ record { who = who.Session k; mark = m } ∷ [] } →
     Leads LeavesAt now new (Leaves k ∷ []) (Leaves k ∷ [])
-exit_call now old new next k place before after m reply asked same n e h count is left takes follows new-is =
+exit_call now old new next k place before after m same n e h count is taken new-is =
     subst (λ s. Leads LeavesAt s new (Leaves k ∷ []) (Leaves k ∷ [])) same
-    (exit_taken old new next k place before after m e (record {
-      number = n;
-      found = found_at old.sessions k place before e h count is;
-      asked = asked;
-      reply = reply;
-      left = left;
-      takes = takes;
-      follows = follows;
-    }) new-is)
+    (exit_taken old new next k place before after m e (record { number = n; found = found_at old.sessions k place before e h count is; taken = taken }) new-is)
 
 -- a call of the worker
 pub work_call : (now old new : Scene) (next : World) (asker : Who) (asked : Step) (m : Mark) (reply : Reply) → old ≡ now → IsWork asker asked →
@@ -174,15 +172,16 @@ pub not_asking_at : (p : Phase) → p ≡ phase.Idle → p ≡ phase.Asking → 
 not_asking_at p idle asking = let no : phase.Idle ≡ phase.Asking = sym idle ∙ asking in cc
 
 -- a call that finds no exit step left changes nothing
-pub through_call : (now old : Scene) (k place : ℕ) (before : StageSession) → old ≡ now → place ≡ k - 1 → place < 8 → length old.sessions ≡ 8 →
-    before ≡ get_or old.sessions place before → slice_get (exits_left before.session) 0 ≡ None →
-    (record { world = old.world; sessions = set old.sessions place before; schedule = old.schedule } ≡ now) × IsThrough now.sessions k
-through_call now old k place before same e h count is none = (
-  ap (λ all. record { world = old.world; sessions = all; schedule = old.schedule }) (ap (set old.sessions place) is ∙ set-get_or old.sessions place before) ∙ same,
+pub through_call : (now old : Scene) (next : World) (k place : ℕ) (before after : StageSession) → old ≡ now → place ≡ k - 1 → place < 8 → length old.sessions ≡ 8 →
+    before ≡ get_or old.sessions place before → StaysThrough before after old.world next →
+    (record { world = next; sessions = set old.sessions place after; schedule = old.schedule } ≡ now) × IsThrough now.sessions k
+through_call now old next k place before after same e h count is stays = (
+  ap (λ w. record { world = w; sessions = set old.sessions place after; schedule = old.schedule }) stays.world
+      ∙ ap (λ all. record { world = old.world; sessions = all; schedule = old.schedule }) (ap (set old.sessions place) (stays.session ∙ is) ∙ set-get_or old.sessions place before) ∙ same,
   λ p found.
       let found-old = found_at old.sessions k place before e h count is in
       let one : before ≡ p = some-same before p (sym found-old ∙ ap (λ s. slice_get s.sessions (k - 1)) same ∙ found) in
-      ap is_through (sym one) ∙ ap is_none none,
+      ap is_through (sym one) ∙ ap is_none stays.none,
 )
 
 -- where nothing is pending any more the running out is done

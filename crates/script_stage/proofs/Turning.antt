@@ -15,12 +15,12 @@ use Rattle.vfs_model.specs.Session.{is_pending, session_run, wanted_step}
 use Rattle.vfs_model.specs.Turns.{Leaves, RunOut, Steps, Task, posted_run, session_if, task_rest, task_who}
 use Rattle.vfs_model.specs.World.{WorldOutcome, fits_step, world_step}
 use Rattle.vfs_model.specs.declared.world.World.{World}
-use Rattle.msh_session.specs.SessionTalks.{exits_left, session_rest}
 use Rattle.script_stage.proofs.Moving.{exit-is, session-moves}
 use Rattle.script_stage.proofs.Reaching.{entry-taken, steps}
 use Rattle.script_stage.proofs.SessionLemmas.{asking-pending, asking-wants, exit-wants}
 use Rattle.script_stage.specs.Scenes.{IsNumber, Scene, handed_of, lines_left, posted_to}
-use Rattle.script_stage.specs.Sessions.{AtExit, AtWork, FollowsExit, FollowsReply}
+use Rattle.script_stage.specs.SessionTurns.{TakesExit, TakesWanted}
+use Rattle.script_stage.specs.Sessions.{AtExit, AtWork}
 use Rattle.script_stage.specs.Standing.{IsWork, LeavesAt, Plays, StandsAt, TakesTurn}
 use Rattle.script_stage.specs.Taking.{TakesStep}
 use Rattle.script_stage.specs.declared.phase.Phase.TheVariants as phase
@@ -36,11 +36,7 @@ pub record IsTurn (old : Scene) (next : World) (k : ℕ) (before after : StageSe
   pub number : IsNumber k
   pub found : slice_get old.sessions (k - 1) ≡ Some before
   pub asking : before.phase ≡ phase.Asking
-  pub asked : Step
-  pub reply : Reply
-  pub wanted : (session_rest before.session [] []).wanted ≡ Some asked
-  pub takes : TakesStep old.world next (who.Session k) asked (reply, m)
-  pub follows : FollowsReply before after reply
+  pub taken : TakesWanted before after old.world next k m
 
 some-session : (a b : StageSession) → Some a ≡ Some b → a ≡ b
 some-session a b e = cc
@@ -55,12 +51,12 @@ turn-moves old next k before after m deck describe task tasks handed turn at ask
     let stands : AtWork before (posted_to at.posted k) (heard_by at.s k) (handed_of handed k) =
     subst (λ p. AtWork p (posted_to at.posted k) (heard_by at.s k) (handed_of handed k)) same a.stands in
     let pending : is_pending (posted_run at.posted at.s k) ≡ true =
-    asking-pending before (posted_to at.posted k) (heard_by at.s k) (handed_of handed k) turn.asked stands turn.asking turn.wanted in
-    let wants : entry_step deck at.s (who.Session k) ≡ Some turn.asked =
+    asking-pending before (posted_to at.posted k) (heard_by at.s k) (handed_of handed k) turn.taken.asked stands turn.asking turn.taken.wanted in
+    let wants : entry_step deck at.s (who.Session k) ≡ Some turn.taken.asked =
     ap (λ x. wanted_step (session_run x (heard_by at.s k))) (at.left k turn.number)
-    ∙ asking-wants before (posted_to at.posted k) (lines_left k (task ∷ tasks)) (heard_by at.s k) (handed_of handed k) turn.asked stands turn.asking turn.wanted in
-    session-moves AtWork old next k after m turn.reply turn.asked deck describe task tasks handed turn.number at (asks true pending) wants turn.takes
-    (turn.follows (posted_to at.posted k) (heard_by at.s k) (handed_of handed k) stands)
+    ∙ asking-wants before (posted_to at.posted k) (lines_left k (task ∷ tasks)) (heard_by at.s k) (handed_of handed k) turn.taken.asked stands turn.asking turn.taken.wanted in
+    session-moves AtWork old next k after m turn.taken.reply turn.taken.asked deck describe task tasks handed turn.number at (asks true pending) wants turn.taken.takes
+    (turn.taken.follows (posted_to at.posted k) (heard_by at.s k) (handed_of handed k) stands)
 
 -- the pending command takes a step, to be run out or for an event
 pub takes-turn : (old : Scene) (next : World) (k : ℕ) (before after : StageSession) (m : Mark) → IsTurn old next k before after m →
@@ -82,11 +78,7 @@ turn_taken old new next k place before after m e turn is =
 pub record IsExit (old : Scene) (next : World) (k : ℕ) (before after : StageSession) (m : Mark) : Type 0 where
   pub number : IsNumber k
   pub found : slice_get old.sessions (k - 1) ≡ Some before
-  pub asked : Step
-  pub reply : Reply
-  pub left : slice_get (exits_left before.session) 0 ≡ Some asked
-  pub takes : TakesStep old.world next (who.Session k) asked (reply, m)
-  pub follows : FollowsExit before after
+  pub taken : TakesExit before after old.world next k m
 
 pub exit-moves : (old : Scene) (next : World) (k : ℕ) (before after : StageSession) (m : Mark) (deck : Deck) (describe : Describe) (tasks : List Task) (handed : List ℕ) →
     IsExit old next k before after m → LeavesAt old deck describe (Leaves k ∷ tasks) handed →
@@ -98,13 +90,13 @@ exit-moves old next k before after m deck describe tasks handed exit at =
     subst (λ p. AtExit p (posted_to at.0.posted k) (heard_by at.0.s k) (handed_of handed k)) same a.stands in
     let lines : session_lines deck k ≡ posted_to at.0.posted k =
     at.0.left k exit.number ∙ ap (λ x. posted_to at.0.posted k ++ x) (at.1 k) ∙ append-nil (posted_to at.0.posted k) in
-    let wants : entry_step deck at.0.s (who.Session k) ≡ Some exit.asked =
+    let wants : entry_step deck at.0.s (who.Session k) ≡ Some exit.taken.asked =
     ap (λ x. wanted_step (session_run x (heard_by at.0.s k))) lines
-    ∙ exit-wants before (posted_to at.0.posted k) (heard_by at.0.s k) (handed_of handed k) stands ∙ exit.left in
+    ∙ exit-wants before (posted_to at.0.posted k) (heard_by at.0.s k) (handed_of handed k) stands ∙ exit.taken.left in
     let turn : task_who at.0.posted at.0.s (Leaves k) ≡ Some (who.Session k) =
-    ap (λ x. session_if (is_some x) k) (exit-is before (posted_to at.0.posted k) (heard_by at.0.s k) (handed_of handed k) stands ∙ exit.left) in (
-      session-moves AtExit old next k after m exit.reply exit.asked deck describe (Leaves k) tasks handed exit.number at.0 turn wants exit.takes
-          (exit.follows (posted_to at.0.posted k) (heard_by at.0.s k) (handed_of handed k) exit.reply stands),
+    ap (λ x. session_if (is_some x) k) (exit-is before (posted_to at.0.posted k) (heard_by at.0.s k) (handed_of handed k) stands ∙ exit.taken.left) in (
+      session-moves AtExit old next k after m exit.taken.reply exit.taken.asked deck describe (Leaves k) tasks handed exit.number at.0 turn wants exit.taken.takes
+          (exit.taken.follows (posted_to at.0.posted k) (heard_by at.0.s k) (handed_of handed k) exit.taken.reply stands),
       at.1,
     )
 

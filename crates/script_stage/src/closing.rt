@@ -1,12 +1,14 @@
 //! How a script at work ends: its sessions leave, and the end is taken.
 
-ghost use Rattle.std.specs.Prelude.{◌≡◌, ◌≢◌, ◌+◌, ◌<◌, ℕ, [], ◌∷◌, List, map, IfOk, OnOk, OnErr};
+ghost use Rattle.std.specs.Prelude.{◌≡◌, ◌≢◌, ◌+◌, ◌<◌, ℕ, [], ◌∷◌, List, length, map, IfOk, IfNone, IfSome, OnOk, OnErr};
 ghost use Rattle.std.specs.Bool.{OnFalse, OnTrue};
 ghost use Rattle.vfs_base.specs.declared.deck.Deck.{Deck as AnyDeck};
 ghost use Rattle.vfs_base.specs.declared.describe.Describe.{Describe as AnyDescribe};
 ghost use Rattle.vfs_model.specs.ScriptRun.{sessions};
 ghost use Rattle.vfs_model.specs.Turns.{Leaves, RunOut, Steps};
+ghost use Rattle.msh_session.specs.SessionTalks.{exits_left};
 ghost use Rattle.script_stage.specs.Scenes.{IsNumber};
+ghost use Rattle.script_stage.specs.SessionTurns.{StaysThrough, TakesExit};
 ghost use Rattle.script_stage.specs.Standing.{Breaks, ClosesAt, Does, EachUpTo, Grows, IsIdle, IsThrough, Leads, LeavesAt, OthersStay, StandsAt, Stops, StopsAt, closing_tasks};
 
 use crate::phase::Phase;
@@ -14,7 +16,7 @@ use crate::stage::{Stage, place_of};
 use crate::stage_session::StageSession;
 use crate::step_world::StepWorld;
 use std::alloc::Global;
-use vfs_base::{Entry, List, NoMemory, SESSIONS, SessionId, Step, Who};
+use vfs_base::{Entry, List, Mark, NoMemory, SESSIONS, SessionId, Step, Who};
 
 impl<W: StepWorld> Stage<W> {
     /// Runs all pending commands to their ends, has each session leave, by number, and takes the end.
@@ -94,12 +96,10 @@ impl<W: StepWorld> Stage<W> {
         ensures err { OnErr result (self.new.schedule ≡ self.old.schedule) }
     {
         let session = &mut self.sessions[place_of(k)];
-        let Some(step) = session.exit_step() else {
+        let Some(mark) = take_exit(alloc, &mut self.world, session, k)? else {
             return Ok(false);
         };
-        let taken = self.world.take(alloc, Who::Session { k }, &step)?;
-        session.exited();
-        self.enter(Who::Session { k }, taken.1)?;
+        self.enter(Who::Session { k }, mark)?;
         Ok(true)
     }
 
@@ -129,6 +129,26 @@ impl<W: StepWorld> Stage<W> {
     }
 }
 
+// Takes the session's next exit step, and answers its mark; `None` where none is left.
+fn take_exit<W: StepWorld>(
+    alloc: Global,
+    world: &mut W,
+    session: &mut StageSession,
+    k: SessionId,
+) -> Result<Option<Mark>, NoMemory>
+    requires { session.old.phase ≢ Phase.Asking }
+    ensures took { IfOk result (λ took. IfSome took (TakesExit session.old session.new (W.world world.old) (W.world world.new) k)) }
+    ensures through { IfOk result (λ took. IfNone took (StaysThrough session.old session.new (W.world world.old) (W.world world.new))) }
+    ensures phase { session.new.phase ≡ session.old.phase }
+{
+    let Some(step) = session.exit_step() else {
+        return Ok(None);
+    };
+    let taken = world.take(alloc, Who::Session { k }, &step)?;
+    session.exited();
+    Ok(Some(taken.1))
+}
+
 // The session makes its exit steps, as far as memory goes, without entries.
 fn leave_unseen<W: StepWorld>(
     alloc: Global,
@@ -138,10 +158,26 @@ fn leave_unseen<W: StepWorld>(
 )
     requires { session.old.phase ≢ Phase.Asking }
 {
-    while let Some(step) = session.exit_step() {
-        let _ = world.take(alloc, Who::Session { k }, &step);
-        session.exited();
-    }
+    'exits: while exit_unseen(alloc, world, session, k) {}
+}
+
+// The session makes its next exit step, if memory allows, without an entry; false where none is left.
+fn exit_unseen<W: StepWorld>(
+    alloc: Global,
+    world: &mut W,
+    session: &mut StageSession,
+    k: SessionId,
+) -> bool
+    requires { session.old.phase ≢ Phase.Asking }
+    ensures phase { session.new.phase ≡ session.old.phase }
+    ensures fewer { OnTrue result (length (exits_left session.new.session) < length (exits_left session.old.session)) }
+{
+    let Some(step) = session.exit_step() else {
+        return false;
+    };
+    let _ = world.take(alloc, Who::Session { k }, &step);
+    session.exited();
+    true
 }
 
 // The session at a place among all.

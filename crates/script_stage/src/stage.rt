@@ -7,8 +7,10 @@ ghost use Rattle.vfs_model.specs.Homes.{opening_world};
 ghost use Rattle.vfs_model.specs.ScriptRun.{RunState, rom_image, sessions, state_after};
 ghost use Rattle.vfs_model.specs.Transcript.{sessions_text};
 ghost use Rattle.vfs_model.specs.Turns.{Leaves, Posts, RunOut, Steps, Task, act_tasks, script_tasks};
+ghost use Rattle.msh_session.specs.SessionTalks.{session_rest};
 ghost use Rattle.script_stage.specs.Scenes.{IsNumber, lines_left};
 ghost use Rattle.script_stage.specs.Sessions.{AtWork};
+ghost use Rattle.script_stage.specs.SessionTurns.{TakesWanted};
 ghost use Rattle.script_stage.specs.Standing.{Breaks, ClosesAt, Does, EachUpTo, Grows, IsAsking, IsHandedOut, IsIdle, IsThrough, IsWork, Leads, LeavesAt, OthersStay, SessionAt, StandsAt, Stops, StopsAt, TakesTurn, closing_tasks};
 
 use crate::phase::Phase;
@@ -165,10 +167,8 @@ impl<W: StepWorld> Stage<W> {
         ensures err { OnErr result (self.new.schedule ≡ self.old.schedule) }
     {
         let session = &mut self.sessions[place_of(k)];
-        let step = session.wanted(alloc)?;
-        let taken = self.world.take(alloc, Who::Session { k }, &step)?;
-        session.hear(alloc, &taken.0)?;
-        self.enter(Who::Session { k }, taken.1)
+        let mark = take_wanted(alloc, &mut self.world, session, k)?;
+        self.enter(Who::Session { k }, mark)
     }
 
     // Puts an entry behind the schedule.
@@ -226,6 +226,36 @@ impl<W: StepWorld> Stage<W> {
         let taken = self.world.take(alloc, *who, step)?;
         self.enter(*who, taken.1)
     }
+}
+
+// Takes the step that the session's pending command asks, and tells it the reply. The answer is the mark.
+fn take_wanted<W: StepWorld>(
+    alloc: Global,
+    world: &mut W,
+    session: &mut StageSession,
+    k: SessionId,
+) -> Result<Mark, NoMemory>
+    requires { session.old.phase ≡ Phase.Asking }
+    ensures { IfOk result (TakesWanted session.old session.new (W.world world.old) (W.world world.new) k) }
+{
+    let step = session.wanted(alloc)?;
+    take_asked(alloc, world, session, k, &step)
+}
+
+// Takes this step, which the session's pending command asks.
+fn take_asked<W: StepWorld>(
+    alloc: Global,
+    world: &mut W,
+    session: &mut StageSession,
+    k: SessionId,
+    step: &Step,
+) -> Result<Mark, NoMemory>
+    requires { (session_rest session.old.session [] []).wanted ≡ Some step.now }
+    ensures { IfOk result (TakesWanted session.old session.new (W.world world.old) (W.world world.new) k) }
+{
+    let taken = world.take(alloc, Who::Session { k }, step)?;
+    session.hear(alloc, &taken.0)?;
+    Ok(taken.1)
 }
 
 // The sessions at the start.

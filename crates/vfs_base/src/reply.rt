@@ -8,7 +8,7 @@ use crate::name::Name;
 use crate::path::Path;
 
 /// The reply to a step.
-#[derive(Debug, Drop)]
+#[derive(Debug)]
 pub enum Reply {
     /// The step was taken, and there is nothing to tell.
     Done,
@@ -68,6 +68,35 @@ pub enum Reply {
     Refused {
         errno: Errno,
     },
+}
+
+// By hand, so that a function that lets a reply go makes one call, and not one for each variant.
+impl Drop for Reply {
+    fn drop(self) {
+        match self {
+            Reply::Listing {
+                path: _path,
+                entries: _entries,
+            } => {}
+            Reply::At { path: _path } => {}
+            Reply::Got { bytes: _bytes } => {}
+            Reply::MountList { lines: _lines } => {}
+            Reply::Holders { lines: _lines } => {}
+            Reply::Files { files: _files } => {}
+            Reply::DeviceList { lines: _lines } => {}
+            Reply::Done
+            | Reply::Opened {
+                hold: _,
+                file: _,
+                kind: _,
+            }
+            | Reply::Held { hold: _ }
+            | Reply::Node { node: _ }
+            | Reply::Count { n: _, end: _ }
+            | Reply::SizeIs { size: _ }
+            | Reply::Refused { errno: _ } => {}
+        }
+    }
 }
 
 /// A name in a folder, and what stands there.

@@ -6,7 +6,7 @@ use crate::list::Bytes;
 
 /// One event of the system: a change of the namespace together with the vnode slots that it needs,
 /// or a transfer of one file. A path is any text; it is read against the session's working directory.
-#[derive(Debug, Drop)]
+#[derive(Debug)]
 pub enum Step {
     /// What stands at a path (POSIX.1-2017, stat).
     Stat {
@@ -132,4 +132,72 @@ pub enum Step {
     },
     /// Writes everything back and unmounts everything.
     Shutdown,
+}
+
+// By hand, so that a function that lets a step go makes one call, and not one for each variant.
+impl Drop for Step {
+    fn drop(self) {
+        match self {
+            Step::Stat { path: _text }
+            | Step::Open {
+                path: _text,
+                flags: _,
+            }
+            | Step::Mkdir { path: _text }
+            | Step::Rmdir { path: _text }
+            | Step::Unlink { path: _text }
+            | Step::List { path: _text }
+            | Step::Chdir { path: _text }
+            | Step::Umount { point: _text }
+            | Step::Mkfs { name: _text }
+            | Step::Write {
+                file: _,
+                off: _,
+                bytes: _text,
+            }
+            | Step::Append {
+                file: _,
+                bytes: _text,
+            }
+            | Step::Store {
+                file: _,
+                off: _,
+                bytes: _text,
+            } => {}
+            Step::Rename {
+                old: _old,
+                new: _new,
+            } => {}
+            Step::Mount {
+                source: _source,
+                point: _point,
+                fs: _fs,
+            } => {}
+            Step::Close { hold: _ }
+            | Step::Home
+            | Step::Cwd
+            | Step::Map { hold: _ }
+            | Step::Unmap { hold: _ }
+            | Step::Mounts
+            | Step::Dentries
+            | Step::Cells
+            | Step::Devices
+            | Step::Size { file: _ }
+            | Step::Read {
+                file: _,
+                off: _,
+                len: _,
+            }
+            | Step::Trunc { file: _, len: _ }
+            | Step::Sync { file: _ }
+            | Step::Load {
+                file: _,
+                off: _,
+                len: _,
+            }
+            | Step::Flush { row: _ }
+            | Step::Reclaim { row: _ }
+            | Step::Shutdown => {}
+        }
+    }
 }

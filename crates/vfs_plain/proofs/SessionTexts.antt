@@ -1,6 +1,6 @@
 -- What the sessions of a script show, beside the definition of its transcript.
 use Rattle.std.proofs.Common.{◌≡◌, ◌∙◌, ℕ, ◌+◌, true, false, Bool, Some, None, Ok, Err, List, [], ◌∷◌, ◌++◌, length, replicate, refl, sym, ap, arith}
-use Rattle.std.specs.Prelude.{◌==◌, cond, filter, map, option_map, slice_get}
+use Rattle.std.specs.Prelude.{◌==◌, IfErr, IfOk, Result, cond, filter, map, option_map, slice_get}
 use Rattle.std.specs.List.{flat_map, range_with_len}
 use Rattle.std.specs.Option.{option_or}
 use Rattle.vfs_base.specs.declared.deck.Act.{Act}
@@ -22,7 +22,7 @@ use Rattle.vfs_plain.proofs.Places.{joined-numbers}
 use Rattle.vfs_plain.proofs.Staging.{shown-same}
 use Rattle.vfs_plain.specs.PlainText.{IsPlainText, LacksText}
 use Rattle.vfs_plain.specs.ScriptSessions.{has_line}
-use Rattle.vfs_plain.specs.Stages.{AllPlay, StandsAt, TakesAll, TakesWhole, titled_text}
+use Rattle.vfs_plain.specs.Stages.{AllPlay, ShowsAll, StandsAt, TakesAll, TakesWhole, titled_text}
 use Rattle.vfs_plain.specs.declared.script_session.ScriptSession.{ScriptSession}
 use Rattle.vfs_plain.specs.declared.stage.Stage.{Stage}
 
@@ -95,31 +95,31 @@ module _ (stage now : Stage) (deck : Deck) (describe : Describe) (schedule : Lis
       ap (λ u. option_or u (cond (has_ended (state_after deck describe schedule)) None (Some (length schedule)))) whole.untaken
       ∙ ap (λ b. option_or None (cond b None (Some (length schedule)))) ended
 
-  -- all entries were taken, and this is shown
-  pub taken-text : (text : List ℕ) →
-      ((s : RunState) → StandsAt stage deck.acts s → TakesAll now deck s schedule (Ok tt)) →
-      text ≡ flat_map (titled_text deck.acts) now.sessions.items ++ schedule_line schedule →
-      IsPlainText deck describe schedule text
-  taken-text text taken is =
-      let whole : TakesWhole now deck (opening_state deck describe) schedule =
-      taken (opening_state deck describe) (opening-stands stage deck describe w opens stands) in
-      record {
-        roms = roms;
-        told = told;
-        whole = no-gap whole;
-        shown =
-            transcript-is whole
-            ∙ ap (λ shown. Some (shown ++ schedule_line schedule)) (sym (texts-same deck whole.next now.sessions.items whole.stands.sessions))
-            ∙ ap Some (sym is);
-      }
-
   by-fault : (why : PlainFault) → TakesAll now deck (opening_state deck describe) schedule (Err why) → LacksText deck describe schedule why
   by-fault (fault.BadRom index) takes = absurd takes
   by-fault fault.Untold takes = absurd takes
   by-fault fault.NoMemory takes = tt
   by-fault (fault.NoSchedule at) takes = (roms, told, takes)
 
-  -- an entry could not be taken
-  pub untaken-lacks : (why : PlainFault) →
-      ((s : RunState) → StandsAt stage deck.acts s → TakesAll now deck s schedule (Err why)) → LacksText deck describe schedule why
-  untaken-lacks why taken = by-fault why (taken (opening_state deck describe) (opening-stands stage deck describe w opens stands))
+  -- all entries were taken, and this is shown
+  pub played-text : (result : Result (List ℕ) PlainFault) →
+      ((s : RunState) → StandsAt stage deck.acts s → ShowsAll now deck s schedule result) → IfOk result (IsPlainText deck describe schedule)
+  played-text (Ok text) shows =
+      let all : ShowsAll now deck (opening_state deck describe) schedule (Ok text) =
+      shows (opening_state deck describe) (opening-stands stage deck describe w opens stands) in
+      record {
+        roms = roms;
+        told = told;
+        whole = no-gap all.0;
+        shown =
+            transcript-is all.0
+            ∙ ap (λ shown. Some (shown ++ schedule_line schedule)) (sym (texts-same deck all.0.next now.sessions.items all.0.stands.sessions))
+            ∙ ap Some (sym all.1);
+      }
+  played-text (Err why) shows = tt
+
+  -- not all entries were taken
+  pub played-lacks : (result : Result (List ℕ) PlainFault) →
+      ((s : RunState) → StandsAt stage deck.acts s → ShowsAll now deck s schedule result) → IfErr result (LacksText deck describe schedule)
+  played-lacks (Ok text) shows = tt
+  played-lacks (Err why) shows = by-fault why (shows (opening_state deck describe) (opening-stands stage deck describe w opens stands))

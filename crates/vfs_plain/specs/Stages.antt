@@ -1,5 +1,6 @@
 -- A world with its sessions, where a script stands.
 use Rattle.std.specs.Prelude.{◌≡◌, ℕ, ◌+◌, ◌-◌, Bool, true, false, Option, Some, None, List, [], ◌∷◌, ◌++◌, Result, Ok, Err, drop, length, slice_get, slice_index_or, if◌then◌else◌}
+use Rattle.std.specs.List.{flat_map}
 use Rattle.std.specs.Option.{option_or}
 use Rattle.vfs_base.specs.declared.deck.Act.{Act}
 use Rattle.vfs_base.specs.declared.deck.Deck.{Deck}
@@ -10,7 +11,7 @@ use Rattle.vfs_base.specs.declared.limits.TheConstants.{SESSIONS}
 use Rattle.vfs_base.specs.declared.reply.Reply.{Reply}
 use Rattle.vfs_base.specs.declared.step.Step.{Step}
 use Rattle.vfs_base.specs.declared.step.Step.TheVariants as step
-use Rattle.vfs_model.specs.Schedule.{is_end}
+use Rattle.vfs_model.specs.Schedule.{is_end, schedule_line}
 use Rattle.vfs_model.specs.ScriptRun.{RunState, has_ended, heard_after, take_entries, untaken_from}
 use Rattle.vfs_model.specs.Transcript.{session_title}
 use Rattle.plain_steps.specs.declared.plain_fault.PlainFault.{PlainFault}
@@ -106,3 +107,12 @@ TakesAll stage deck s schedule (Err fault.NoMemory) = Unit {0}
 TakesAll stage deck s schedule (Err fault.Untold) = ⊥
 TakesAll stage deck s schedule (Err (fault.BadRom index)) = ⊥
 TakesAll stage deck s schedule (Err (fault.NoSchedule at)) = gap_at deck s schedule ≡ Some at
+
+-- what all sessions show, and the schedule's line
+abbrev pub whole_text : List Act → Stage → List Entry → List ℕ
+whole_text acts stage schedule = flat_map (titled_text acts) stage.sessions.items ++ schedule_line schedule
+
+-- all entries were taken from this state on and this is shown, or it is told why not
+abbrev pub ShowsAll : Stage → Deck → RunState → List Entry → Result (List ℕ) PlainFault → Type 0
+ShowsAll stage deck s schedule (Ok text) = TakesWhole stage deck s schedule × (text ≡ whole_text deck.acts stage schedule)
+ShowsAll stage deck s schedule (Err why) = TakesAll stage deck s schedule (Err why)

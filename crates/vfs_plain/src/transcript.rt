@@ -4,14 +4,14 @@ ghost use Rattle.std.specs.Prelude.{◌≡◌, IfOk, IfErr};
 ghost use Rattle.plain_steps.specs.Opening.{HasFewCellsEach};
 ghost use Rattle.vfs_model.specs.ScriptRun.{RunState};
 ghost use Rattle.vfs_plain.specs.PlainText.{IsPlainText, LacksText};
-ghost use Rattle.vfs_plain.specs.Stages.{StandsAt, TakesAll};
+ghost use Rattle.vfs_plain.specs.Stages.{ShowsAll, StandsAt, TakesAll, whole_text};
 
 use crate::sessions_text::push_sessions;
 use crate::stage::Stage;
 use deck_form::print_schedule;
 use plain_steps::{PlainFault, PlainWorld};
 use std::alloc::Global;
-use vfs_base::{Bytes, Deck, Describe, Entry};
+use vfs_base::{Bytes, Deck, Describe, Entry, NoMemory};
 
 /// What the sessions of a script are shown under a schedule, up to and with the schedule's line: for
 /// each session that the script posts to, by number, the line `[k]` and its blocks. Nothing is asked
@@ -34,7 +34,32 @@ pub fn plain_run(
 {
     let world = PlainWorld::open(alloc, deck, describe)?;
     let mut stage = Stage::new(alloc, deck, world)?;
-    take_all(alloc, &mut stage, deck, schedule)?;
+    play(alloc, &mut stage, deck, schedule)
+}
+
+// Takes all entries, and tells what is shown then.
+fn play(
+    alloc: Global,
+    stage: &mut Stage,
+    deck: &Deck,
+    schedule: &[Entry],
+) -> Result<Bytes, PlainFault>
+    ensures { (s : RunState) → StandsAt stage.old deck.now.acts s → ShowsAll stage.new deck.now s schedule.now result }
+{
+    take_all(alloc, stage, deck, schedule)?;
+    let text = shown_text(alloc, stage, deck, schedule)?;
+    Ok(text)
+}
+
+// What the sessions show, and the schedule's line.
+fn shown_text(
+    alloc: Global,
+    stage: &Stage,
+    deck: &Deck,
+    schedule: &[Entry],
+) -> Result<Bytes, NoMemory>
+    ensures { IfOk result (λ text. text ≡ whole_text deck.now.acts stage.now schedule.now) }
+{
     let mut text = Bytes::new(alloc);
     push_sessions(&mut text, deck.acts.as_slice(), stage.sessions())?;
     let line = print_schedule(alloc, schedule)?;
