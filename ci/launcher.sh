@@ -1,6 +1,6 @@
 #!/bin/sh
-# Calls the launcher in each way that could lose input, or end with a status that is not true. Nothing is proved or compiled:
-# a stand-in for the kit shows what it was given.
+# Calls the launcher in each way that could lose input, or end with a status that is not true, and builds and installs. Nothing is
+# proved or compiled: a stand-in for the kit shows what it was given.
 cd "$(dirname "$0")/.." || exit 2
 # shellcheck source=ci/stand_in.sh
 . ci/stand_in.sh
@@ -57,14 +57,21 @@ run "$tree/dfs" shell </tmp; ends 'a folder as input' 4 'dfs: read fault' ''
 run env STAND_IN=bad_deck "$tree/dfs" shell <"$room/input" 2>&-
 [ "$status" -eq 3 ] || complain "closed standard error: status $status"
 
-stand_in_program
+run "$tree/install" "$room/prefix"; ends 'an install without a program' 1 'install: no proved program is current*' ''
+run "$tree/build"; ends 'a build' 0 '*its stamp is written' ''
 run "$tree/dfs" shell <"$room/input"; ends 'a current program' 0 '' 'proved shell
 given: x'
-echo '# other' >>"$tree/crates/dfs/out/dfs"
+run "$tree/install"; ends 'an install to nowhere' 2 'usage: ./install PREFIX*' ''
+run "$tree/install" "$room/prefix"
+cmp -s "$program" "$room/prefix/bin/dfs" || complain 'the installed program is another'
+grep -q 'built from commit' "$room/prefix/share/man/man1/dfs.1" || complain 'the manual page is not installed'
+grep -q '@[A-Z]*@' "$room/prefix/share/man/man1/dfs.1" && complain 'the manual page does not name the commit and the kit'
+echo '# other' >>"$program"
 run "$tree/dfs" shell <"$room/input"; ends 'another program in its place' 0 '' 'given: x'
-stand_in_program
+run "$tree/build"
 echo '// other' >>"$tree/crates/low/src/lib.rt"
 run "$tree/dfs" shell <"$room/input"; ends 'a source below that changed' 0 '' 'given: x'
+run "$tree/install" "$room/prefix"; ends 'an install of an old program' 1 'install: no proved program is current*' ''
 
 # The tools that the launcher uses, without the kit.
 mkdir "$room/tools"

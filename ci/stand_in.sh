@@ -3,17 +3,20 @@
 room=$(mktemp -d) || exit 2
 trap 'rm -rf "$room"' EXIT
 tree=$room/tree
+# shellcheck disable=SC2034
 program=$tree/crates/dfs/out/dfs
 PATH=$room/kit:$PATH
 mkdir -p "$room/kit" "$tree/tools" "$tree/crates/dfs/src" "$tree/crates/dfs/out" "$tree/crates/low/src" || exit 2
-cp dfs "$tree/dfs" || exit 2
+cp dfs build install "$tree" || exit 2
 cp tools/stamp "$tree/tools/stamp" || exit 2
+mkdir "$tree/docs" && cp docs/dfs.1 "$tree/docs/dfs.1" || exit 2
 printf 'low:\ndfs: low\n' >"$tree/crates.txt"
 echo 'Handles allowed: none.' >"$tree/HANDLES"
 echo '//! The program.' >"$tree/crates/dfs/src/main.rt"
 echo '//! What it uses.' >"$tree/crates/low/src/lib.rt"
 
-# It shows the input, which has to be a file, and ends as $STAND_IN says. The file `calls` beside it keeps its words.
+# `rt try` shows the input, which has to be a file, and ends as $STAND_IN says; `rt run` leaves a program. The file `calls` beside
+# it keeps the words of each call.
 cat >"$room/kit/rt" <<'END'
 #!/bin/sh
 if [ "$1" = version ]; then
@@ -21,6 +24,11 @@ if [ "$1" = version ]; then
     exit
 fi
 echo "$*" >>"$(dirname "$0")/calls"
+if [ "$1" = run ]; then
+    printf '#!/bin/sh\necho "proved $*"\nsed "s/^/given: /"\n' >out/dfs
+    chmod +x out/dfs
+    exit
+fi
 [ -f /dev/fd/0 ] || echo 'the input is no file'
 case $STAND_IN in
 slow) sleep 2 ;;
@@ -44,10 +52,3 @@ printf 'checked: ended status=%s\nrun=ended status=%s runners=1 proved=no\n' "$s
 exit "$status"
 END
 chmod +x "$room/kit/rt"
-
-# Puts a program in the place of the proved one, with its stamp.
-stand_in_program() {
-    printf '#!/bin/sh\necho "proved $*"\nsed "s/^/given: /"\n' >"$program"
-    chmod +x "$program"
-    "$tree/tools/stamp" --write
-}
