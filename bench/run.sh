@@ -1,9 +1,9 @@
 #!/bin/sh
-# Times the proved program on 10,000, 20,000 and 40,000 lines of small commands (cd crates/dfs && rt run -- shell builds it).
+# Times the proved program on 10,000, 20,000 and 40,000 lines of small commands (./build makes it).
 cd "$(dirname "$0")/.." || exit 2
 program=crates/dfs/out/dfs
 [ -x "$program" ] || {
-    echo 'bench: no program is built (cd crates/dfs && rt run -- shell builds it)' >&2
+    echo 'bench: no program is built (./build makes it)' >&2
     exit 1
 }
 
