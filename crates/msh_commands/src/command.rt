@@ -23,9 +23,16 @@ use vfs_base::{Bytes, NoMemory, Reply, Step};
 use vfs_model::Next;
 
 /// A command of the shell, where it stands between two steps.
-#[derive(Drop)]
 pub struct Command {
     family: Family,
+}
+
+// By hand, so that whoever lets a command go makes one call.
+impl Drop for Command {
+    fn drop(self) {
+        let Command { family } = self;
+        drop(family);
+    }
 }
 
 // A command of each family, or one that is finished at once.

@@ -24,11 +24,23 @@ use vfs_base::{Bytes, NoMemory, Reply, Step};
 /// A session of the shell: it runs lines one after the other, and then leaves.
 ///
 /// It asks for steps and waits for their replies; it makes no step by itself.
-#[derive(Drop)]
 pub struct Session {
     desk: Desk,
     stage: Stage,
     exits: Exits,
+}
+
+// By hand, so that whoever lets a session go makes one call.
+impl Drop for Session {
+    fn drop(self) {
+        let Session {
+            desk,
+            stage,
+            exits: _,
+        } = self;
+        drop(desk);
+        drop(stage);
+    }
 }
 
 impl Session {

@@ -4,6 +4,7 @@ ghost use Rattle.std.specs.Prelude.{◌≡◌, ◌++◌, ◌∷◌, [], None, If
 ghost use Rattle.vfs_model.specs.Homes.{empty_cells, opening_home, opening_world};
 ghost use Rattle.vfs_model.specs.Namespace.{opening_device, opening_namespace, opening_volume, root_mount};
 ghost use Rattle.vfs_model.specs.declared.world.FileState.TheVariants as file;
+ghost use Rattle.plain_steps.specs.Starting.{empty_namespace, with_devices, with_slots};
 
 use std::alloc::Global;
 use vfs_base::{
@@ -30,7 +31,6 @@ pub fn opening_world(
     })
 }
 
-#[tactic(auto, unfolding(vfs_model::specs::Namespace::opening_namespace))]
 fn opening_namespace(
     alloc: Global,
     roms: List<RomImage>,
@@ -38,19 +38,64 @@ fn opening_namespace(
 ) -> Result<Namespace, NoMemory>
     ensures { IfOk result (λ namespace. namespace ≡ opening_namespace roms describe.now) }
 {
+    let mut namespace = empty_namespace(alloc, roms)?;
+    fill_namespace(alloc, &mut namespace, describe)?;
+    Ok(namespace)
+}
+
+// Without any slot, and without devices.
+fn empty_namespace(alloc: Global, roms: List<RomImage>) -> Result<Namespace, NoMemory>
+    ensures { IfOk result (λ namespace. namespace ≡ empty_namespace roms) }
+{
+    let root = root_mount(alloc)?;
     Ok(Namespace {
-        root: root_mount(alloc)?,
+        root,
         mounts: List::new(alloc),
-        trees: empty_lists(alloc, MOUNTS)?,
-        lives: nothings(alloc, ROWS as usize)?,
-        generations: zeros(alloc, ROWS as usize)?,
-        references: nothings(alloc, SESSIONS as usize * HOLDS)?,
-        folders: roots(alloc, SESSIONS as usize)?,
-        volumes: opening_volumes(alloc, describe.volumes.as_slice())?,
+        trees: List::new(alloc),
+        lives: List::new(alloc),
+        generations: List::new(alloc),
+        references: List::new(alloc),
+        folders: List::new(alloc),
+        volumes: List::new(alloc),
         roms,
-        devices: opening_devices(alloc, describe.chars.as_slice())?,
+        devices: List::new(alloc),
         is_stopped: false,
     })
+}
+
+fn fill_namespace(
+    alloc: Global,
+    namespace: &mut Namespace,
+    describe: &Describe,
+) -> Result<(), NoMemory>
+    ensures { OnOk result (namespace.new ≡ with_devices (with_slots namespace.old) describe.now) }
+{
+    add_slots(alloc, namespace)?;
+    add_devices(alloc, namespace, describe)
+}
+
+// All slots, with nothing in them.
+fn add_slots(alloc: Global, namespace: &mut Namespace) -> Result<(), NoMemory>
+    ensures { OnOk result (namespace.new ≡ with_slots namespace.old) }
+{
+    namespace.trees = empty_lists(alloc, MOUNTS)?;
+    namespace.lives = nothings(alloc, ROWS as usize)?;
+    namespace.generations = zeros(alloc, ROWS as usize)?;
+    namespace.references = nothings(alloc, SESSIONS as usize * HOLDS)?;
+    namespace.folders = roots(alloc, SESSIONS as usize)?;
+    Ok(())
+}
+
+fn add_devices(
+    alloc: Global,
+    namespace: &mut Namespace,
+    describe: &Describe,
+) -> Result<(), NoMemory>
+    ensures { OnOk result (namespace.new ≡ with_devices namespace.old describe.now) }
+{
+    namespace.volumes = opening_volumes(alloc, describe.volumes.as_slice())?;
+    namespace.devices = opening_devices(alloc, describe.chars.as_slice())?;
+    Ok(())
 }
 
 fn root_mount(alloc: Global) -> Result<Mount, NoMemory>

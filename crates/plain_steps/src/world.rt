@@ -28,9 +28,16 @@ use vfs_base::{Deck, Describe, Errno, Mark, NoMemory, Reply, RowId, SessionId, S
 use vfs_model::World;
 
 /// The plain world over flat lists: mounts, trees, files by row, and what lies at home.
-#[derive(Drop)]
 pub struct PlainWorld {
     pub(crate) world: World,
+}
+
+// By hand, so that whoever lets a world go makes one call.
+impl Drop for PlainWorld {
+    fn drop(self) {
+        let PlainWorld { world } = self;
+        drop(world);
+    }
 }
 
 impl Model for PlainWorld {
