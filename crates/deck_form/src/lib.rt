@@ -16,6 +16,3 @@ pub use deck::{DeckFault, read_deck};
 pub use line::{DeckLine, deck_line};
 pub use schedule::{ScheduleFault, print_schedule, read_schedule};
 pub use soak::soak_deck;
-
-#[cfg(test)]
-mod tests;

@@ -8,6 +8,3 @@ mod grammar;
 mod mode;
 
 pub use mode::{Job, Mode, ModeFault, mode_of};
-
-#[cfg(test)]
-mod tests;

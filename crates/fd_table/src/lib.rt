@@ -15,6 +15,3 @@ pub use fd_fault::FdFault;
 pub use fd_table::FdTable;
 pub use offset::{PLACE_MAX, moved_place};
 pub use vfs_model::{OpenFile, Whence};
-
-#[cfg(test)]
-mod tests;

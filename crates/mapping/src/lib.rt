@@ -13,6 +13,3 @@ pub use map_fault::MapFault;
 pub use request::may_map;
 pub use vfs_model::Window;
 pub use windows::Windows;
-
-#[cfg(test)]
-mod tests;

@@ -4,16 +4,8 @@
 //! docs/MSH.md tells in words. It keeps no reply, asks no step by itself, and knows no file system.
 #![tactic(auto)]
 
-#[cfg(test)]
-mod asked;
 mod command;
-#[cfg(test)]
-mod dialogue;
 mod plain_words;
-#[cfg(test)]
-mod replying;
-#[cfg(test)]
-mod tests;
 
 pub use command::Command;
 pub use msh_desk::{Desk, ShownFolder};

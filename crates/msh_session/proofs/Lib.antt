@@ -6,4 +6,3 @@ pub mod Heads
 pub mod LastByte
 pub mod Runs
 pub mod Stages
-pub mod TestFits

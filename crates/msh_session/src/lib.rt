@@ -18,6 +18,3 @@ pub use laws::{
     taken_reply_is_followed,
 };
 pub use session::Session;
-
-#[cfg(test)]
-mod tests;

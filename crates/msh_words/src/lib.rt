@@ -10,6 +10,3 @@ mod words;
 
 pub use word_fault::WordFault;
 pub use words::{Words, split};
-
-#[cfg(test)]
-mod tests;

@@ -17,6 +17,3 @@ pub use contents::origin_content;
 pub use homes::{bind_file, empty_cells, free_file};
 pub use row::{fits_row, step_row};
 pub use step::{fits_file, step_file};
-
-#[cfg(test)]
-mod tests;

@@ -1,6 +1,6 @@
 -- The steps of the world that sessions ask, by what the namespace answers.
 use Rattle.std.proofs.Common.{◌≡◌, ℕ, refl, ap, sym, ◌∙◌}
-use Rattle.std.specs.Prelude.{Bool, true, false, ◌&&◌, ◌||◌, is_some, None, Result, Ok, Err}
+use Rattle.std.specs.Prelude.{Bool, true, false, ◌||◌, is_some, None, Result, Ok, Err}
 use Rattle.vfs_base.specs.declared.entry.Mark.TheVariants as mark
 use Rattle.vfs_base.specs.declared.entry.Who.{Who}
 use Rattle.vfs_base.specs.declared.entry.Who.TheVariants as who
@@ -9,7 +9,6 @@ use Rattle.vfs_base.specs.declared.errno.Errno.TheVariants as errno
 use Rattle.vfs_base.specs.declared.reply.Reply.TheVariants as reply
 use Rattle.vfs_base.specs.declared.step.Step.{Step}
 use Rattle.vfs_base.specs.declared.step.Step.TheVariants as step
-use Rattle.vfs_model.specs.Asking.{is_at_rest, may_ask}
 use Rattle.vfs_model.specs.NamespaceOutcome.{NamespaceOutcome, refused, settled}
 use Rattle.vfs_model.specs.NamespaceStep.{is_shutdown, namespace_answer, namespace_step, shutdown_step, under_mark}
 use Rattle.vfs_model.specs.StepForms.{MayTake}
@@ -86,24 +85,6 @@ asked_by_session (who.Session k) asked e n s = refl
 asked_by_session (who.Flush row) asked e n s = absurd (cc (taken_by_session asked e n s))
 asked_by_session (who.Reclaim row) asked e n s = absurd (cc (taken_by_session asked e n s))
 asked_by_session who.End asked e n s = absurd (cc (taken_by_session asked e n s))
-
-or_shutdown : (front shutdown : Bool) → shutdown ≡ true → (front || shutdown) ≡ true
-or_shutdown true shutdown e = refl
-or_shutdown false shutdown e = e
-
--- who may ask a step may take it
-pub may_take : (w : World) (asker : Who) (asked : Step) → may_ask w asker asked ≡ true → MayTake asker asked
-unfolding may_ask
-may_take w (who.Session k) asked e = tt
-may_take w (who.Flush row) (step.Flush other) e = refl
-may_take w (who.Flush row) _ e = absurd (cc (e))
-may_take w (who.Reclaim row) (step.Reclaim other) e = refl
-may_take w (who.Reclaim row) _ e = absurd (cc (e))
-may_take w who.End asked e = by_shutdown (is_shutdown asked) refl e
-  where
-    by_shutdown : (b : Bool) → is_shutdown asked ≡ b → (b && is_at_rest w.namespace) ≡ true → (is_some (step_row asked) || is_shutdown asked) ≡ true
-    by_shutdown true is e = or_shutdown (is_some (step_row asked)) (is_shutdown asked) is
-    by_shutdown false is e = absurd (cc (e))
 
 -- at the end it is Shutdown that is asked, whoever asks
 pub shuts : (w : World) (k : ℕ) (asked : Step) (m : Mark) → is_shutdown asked ≡ true →

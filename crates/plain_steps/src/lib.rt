@@ -6,21 +6,9 @@
 //! and no threads.
 #![tactic(auto)]
 
-#[cfg(test)]
-mod mount_tests;
-#[cfg(test)]
-mod open_tests;
 mod plain_fault;
-#[cfg(test)]
-mod printing;
 mod roms;
 mod start;
-#[cfg(test)]
-mod stepping;
-#[cfg(test)]
-mod tests;
-#[cfg(test)]
-mod trial;
 mod world;
 
 pub use plain_fault::PlainFault;

@@ -13,6 +13,3 @@ mod rom_tree;
 pub use draft::Draft;
 pub use manifest::{ManifestFault, read_manifest, write_manifest};
 pub use rom_tree::{RomNode, RomTree};
-
-#[cfg(test)]
-mod tests;

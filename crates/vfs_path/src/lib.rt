@@ -12,6 +12,3 @@ mod path_fault;
 pub use ancestry::{parent, starts_with};
 pub use normal::normalise;
 pub use path_fault::PathFault;
-
-#[cfg(test)]
-mod tests;
