@@ -1,6 +1,7 @@
 //! The program `dfs`: the top call on the process's words, standard input and standard output.
 //!
 //! It ends with the report's status, and prints one line on standard error for a status other than 0.
+//! It knows no mode, line or step.
 #![tactic(auto)]
 
 use dfs_run::{FaultNote, Report, top_alone};

@@ -1,7 +1,8 @@
 //! The commands of the shell: each asks one step at a time, and goes on with the reply.
 //!
 //! A contract sees a `Command` as what it does for any later replies: a `Talk` of `vfs_model`, which
-//! docs/MSH.md tells in words. It keeps no reply, asks no step by itself, and knows no file system.
+//! docs/MSH.md tells in words. It keeps no reply, asks no step by itself, and knows
+//! no session and no file system.
 #![tactic(auto)]
 
 mod command;

@@ -2,7 +2,7 @@
 //!
 //! A contract sees a `FileCommand` and a `MappingCommand` as what it does for any later replies: a `Talk` of
 //! `vfs_model`, which docs/MSH.md tells in words. What it opens and maps is in the `Desk` with the reply. It
-//! asks no step by itself, and knows no file system.
+//! asks no step by itself, and knows no folder, mount or file system.
 #![tactic(auto)]
 
 mod file_words;

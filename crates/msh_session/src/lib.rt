@@ -2,7 +2,7 @@
 //!
 //! A contract sees a `Session` as what it does for any later lines and replies: a `SessionRun` of
 //! `vfs_model`. docs/MSH.md tells the blocks and the exit in words. It asks no step by itself, and
-//! knows no file system.
+//! knows no other session and no file system.
 #![tactic(auto)]
 
 mod exits;

@@ -2,7 +2,7 @@
 //!
 //! A contract sees a `FolderCommand` and a `MountCommand` as what it does for any later replies: a `Talk` of
 //! `vfs_model`, which docs/MSH.md tells in words. It keeps no reply, asks no step by itself, and knows no
-//! file system.
+//! descriptor, mapping or file system.
 #![tactic(auto)]
 
 mod folder_words;

@@ -1,7 +1,8 @@
 //! The steps that list mounts, holders, files of cells and devices of the plain world.
 //!
 //! A contract sees the plain world, and says that a call answers what the definition of its step
-//! does. A list is made anew at each call, by walks over the flat lists. It changes nothing.
+//! does. A list is made anew at each call, by walks over the flat lists. It changes nothing, and does not know
+//! how anything changes.
 #![tactic(auto)]
 
 mod counting;

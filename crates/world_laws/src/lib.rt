@@ -1,7 +1,7 @@
 //! Every step keeps the plain world consistent.
 //!
 //! A contract sees laws alone: each function states one, and does nothing. The parts of consistency are told in
-//! docs/STEPS.md, "What holds between steps".
+//! docs/STEPS.md, "What holds between steps". It has no code, and knows none.
 #![tactic(auto)]
 
 ghost use Rattle.world_laws.specs.Keeping.{FileStepsKeepConsistency, OpeningIsConsistent, RunsKeepConsistency, StepsKeepConsistency};
