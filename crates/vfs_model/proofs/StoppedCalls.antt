@@ -87,7 +87,7 @@ after left number a b c (Err stopped) grows out h = record {
 
 pub bind : {E : Type 0} (left : E → CacheRun) (number : ℕ) (a b c : CacheRun) (tried : Result CacheRun E) (rest : CacheRun → Result CacheRun E) →
     Follows left number a b tried → Follows left number b c (rest b) → Follows left number a c (tried >>= rest)
-bind {E} left number a b c (Ok next) rest first second =
+bind left number a b c (Ok next) rest first second =
     let P : CacheRun → Type 0 = λ x. Follows left number a c (rest x) in
     subst P (sym first.outcome.same) (after left number a b c (rest b) first.grows first.outcome.outside second)
 bind left number a b c (Err stopped) rest first second = record {
@@ -111,10 +111,10 @@ pub and-then : {E : Type 0} (left : E → CacheRun) (number : ℕ) (a b : CacheR
     (change b).calls ≡ b.calls → Follows left number a b tried → Follows left number a (change b) (tried >>= λ x. Ok (change x))
 and-then left number a b change tried e h = bind left number a b (change b) tried (λ x. Ok (change x)) h (uncalled left number b (change b) e)
 
-choice : {E : Type 0} (left : E → CacheRun) (number : ℕ) (a b c : CacheRun) (test : Bool) (tried other : Result CacheRun E) →
+choice : {E : Type 0} (left : E → CacheRun) (number : ℕ) (a b c : CacheRun) (test : Bool) {tried other : Result CacheRun E} →
     Follows left number a b tried → Follows left number a c other → Follows left number a (if test then b else c) (if test then tried else other)
-choice left number a b c true tried other first second = first
-choice left number a b c false tried other first second = second
+choice left number a b c true first second = first
+choice left number a b c false first second = second
 
 abbrev pub itself : CacheRun → CacheRun
 itself run = run
@@ -154,7 +154,7 @@ evict-follows number run None = uncalled itself number run run refl
 evict-follows number run (Some slot) =
     and-then itself number run (write_dirty run slot) (λ written. record written { next = without_last written.next })
     (if slot.is_dirty then try_write number run slot.page else Ok run) refl
-    (choice itself number run _ run slot.is_dirty _ _ (write-follows number run slot.page) (uncalled itself number run run refl))
+    (choice itself number run _ run slot.is_dirty (write-follows number run slot.page) (uncalled itself number run run refl))
 
 last-follows : (number : ℕ) (run : CacheRun) → Follows itself number run (evict_last run) (try_evict_last number run)
 unfolding evict_last
@@ -183,15 +183,15 @@ bring-follows number page run =
     (and-then itself number run (if is_stored run.next page then record run { calls = run.calls ++ call.Read page ∷ [] } else run)
     (λ read. record read { next = record read.next { resident = record { page = page; is_dirty = false } ∷ read.next.resident } })
     (if is_stored run.next page then try_call number run (call.Read page) else Ok run) refl
-    (choice itself number run _ run (is_stored run.next page) _ _ (call-follows number run (call.Read page)) (uncalled itself number run run refl)))
+    (choice itself number run _ run (is_stored run.next page) (call-follows number run (call.Read page)) (uncalled itself number run run refl)))
 
 touch-follows : (number : ℕ) (run : CacheRun) (page : ℕ) → Follows itself number run (touch run page) (try_touch number run page)
 unfolding touch
-touch-follows number run page = choice itself number run _ _ (is_resident run.next page) _ _
+touch-follows number run page = choice itself number run _ _ (is_resident run.next page)
     (uncalled itself number run (record run { next = move_to_front page run.next }) refl)
     (bind itself number run (if nat_le RESIDENT_PAGES (length run.next.resident) then evict_last run else run) _
     (if nat_le RESIDENT_PAGES (length run.next.resident) then try_evict_last number run else Ok run) (λ room. try_bring_in number page room)
-    (choice itself number run (evict_last run) run (nat_le RESIDENT_PAGES (length run.next.resident)) _ _ (last-follows number run) (uncalled itself number run run refl))
+    (choice itself number run (evict_last run) run (nat_le RESIDENT_PAGES (length run.next.resident)) (last-follows number run) (uncalled itself number run run refl))
     (bring-follows number page (if nat_le RESIDENT_PAGES (length run.next.resident) then evict_last run else run)))
 
 edit-follows : (number : ℕ) (run : CacheRun) (page : ℕ) → Follows itself number run (touch_and_edit run page) (try_edit number run page)
@@ -224,12 +224,12 @@ reclaim-follows number run = many-follows number (length run.next.resident - REC
 end-follows : (number : ℕ) (run : CacheRun) (len : ℕ) → Follows itself number run (edit_end run len) (try_edit_end number run len)
 end-follows number run len =
     choice itself number run (touch_and_edit run (len / PAGE_SIZE)) run
-    (not (len % PAGE_SIZE == 0) && (is_resident run.next (len / PAGE_SIZE) || is_stored run.next (len / PAGE_SIZE))) _ _
+    (not (len % PAGE_SIZE == 0) && (is_resident run.next (len / PAGE_SIZE) || is_stored run.next (len / PAGE_SIZE)))
     (edit-follows number run (len / PAGE_SIZE)) (uncalled itself number run run refl)
 
 truncate-follows : (number : ℕ) (run : CacheRun) (size len : ℕ) → Follows itself number run (truncate run size len) (try_truncate number run size len)
 unfolding truncate
-truncate-follows number run size len = choice itself number run _ run (nat_lt len size) _ _
+truncate-follows number run size len = choice itself number run _ run (nat_lt len size)
     (and-then itself number run (edit_end run len) (cut_pages ((len + PAGE_SIZE - 1) / PAGE_SIZE)) (try_edit_end number run len) refl (end-follows number run len))
     (uncalled itself number run run refl)
 
@@ -266,7 +266,7 @@ move-follows number run size _ count = uncalled stopped_at number run run refl
 stopped-follows : (number : ℕ) (f : FileState) (cache : CacheState) (asked : Step) →
     Follows stopped_at number (begin_run cache) (row_run f cache asked) (stopped_run number f cache asked)
 unfolding row_run stopped_run
-stopped-follows number f cache asked = choice stopped_at number (begin_run cache) _ (begin_run cache) (is_on_cell f && is_ok (file_refusals f asked)) _ _
+stopped-follows number f cache asked = choice stopped_at number (begin_run cache) _ (begin_run cache) (is_on_cell f && is_ok (file_refusals f asked))
     (move-follows number (begin_run cache) (file_size f) asked (moved_count f asked)) (uncalled stopped_at number (begin_run cache) (begin_run cache) refl)
 
 -- a call that fails stops its step exactly where the step makes it

@@ -147,21 +147,22 @@ read-bytes generation kind capacity bytes id off len e =
     ∙ ap (λ n. reply.Got (take n (drop off bytes))) (read-count generation kind capacity bytes id off len e)
 
 -- a file of bytes, behind a write that was taken
-read-written : (generation : ℕ) (kind : Kind) (capacity : ℕ) (bytes : List ℕ) (id : FileId) (off : ℕ) (piece : List ℕ) (passed : Result (Unit {0}) Errno) →
-    file_refusals (file.Bytes generation kind capacity bytes) (step.Write id off piece) ≡ passed →
-    (clear_step (file.Bytes generation kind capacity bytes) (step.Write id off piece) passed).reply ≡ reply.Count (length piece) (off + length piece) →
-    (file_step (clear_step (file.Bytes generation kind capacity bytes) (step.Write id off piece) passed).next (step.Read id off (length piece)) mark.Clear).reply
-    ≡ reply.Got piece
-unfolding file_refusals
-read-written generation kind capacity bytes id off piece (Err errno) p e = absurd (cc)
-read-written generation kind capacity bytes id off piece (Ok passed) p e =
-    let count : ℕ = moved_count (file.Bytes generation kind capacity bytes) (step.Write id off piece) in
-    let same : count ≡ length piece = count-is count (off + count) (length piece) (off + length piece) e in
-    let whole : take count piece ≡ piece = ap (λ n. take n piece) same ∙ take-length piece in
-    let test = passed-test (is_of_generation generation (Some id)) (bytes_refusals kind capacity (length bytes) (step.Write id off piece)) errno.ENOENT p in
-    ap (λ moved. (file_step (file.Bytes generation kind capacity (written_at off moved bytes)) (step.Read id off (length piece)) mark.Clear).reply) whole
-    ∙ read-bytes generation kind capacity (written_at off piece bytes) id off (length piece) test
-    ∙ ap reply.Got (read-back off piece bytes)
+module _ (generation : ℕ) (kind : Kind) (capacity : ℕ) where
+  read-written : (bytes : List ℕ) (id : FileId) (off : ℕ) (piece : List ℕ) (passed : Result (Unit {0}) Errno) →
+      file_refusals (file.Bytes generation kind capacity bytes) (step.Write id off piece) ≡ passed →
+      (clear_step (file.Bytes generation kind capacity bytes) (step.Write id off piece) passed).reply ≡ reply.Count (length piece) (off + length piece) →
+      (file_step (clear_step (file.Bytes generation kind capacity bytes) (step.Write id off piece) passed).next (step.Read id off (length piece)) mark.Clear).reply
+      ≡ reply.Got piece
+  unfolding file_refusals
+  read-written bytes id off piece (Err errno) p e = absurd (cc)
+  read-written bytes id off piece (Ok passed) p e =
+      let count : ℕ = moved_count (file.Bytes generation kind capacity bytes) (step.Write id off piece) in
+      let same : count ≡ length piece = count-is count (off + count) (length piece) (off + length piece) e in
+      let whole : take count piece ≡ piece = ap (λ n. take n piece) same ∙ take-length piece in
+      let test = passed-test (is_of_generation generation (Some id)) (bytes_refusals kind capacity (length bytes) (step.Write id off piece)) errno.ENOENT p in
+      ap (λ moved. (file_step (file.Bytes generation kind capacity (written_at off moved bytes)) (step.Read id off (length piece)) mark.Clear).reply) whole
+      ∙ read-bytes generation kind capacity (written_at off piece bytes) id off (length piece) test
+      ∙ ap reply.Got (read-back off piece bytes)
 
 -- a character device takes a piece that is read again only where it is empty
 device-count : (generation : ℕ) (input output : List ℕ) (id : FileId) (off : ℕ) → is_of_generation generation (Some id) ≡ true →
