@@ -11,8 +11,6 @@ use Rattle.std.specs.declared.cmp.Ordering.{Ordering}
 use Rattle.std.specs.declared.cmp.Ordering.TheVariants.{Less, Equal, Greater}
 use Rattle.vfs_model.specs.Cache.{CacheRun, dirty_pages, is_page, make_clean, write_back}
 use Rattle.vfs_model.specs.FailedCalls.{clean_page}
-use Rattle.vfs_model.specs.declared.cache.CacheState.{CacheState}
-use Rattle.vfs_model.specs.declared.cache.DeviceCall.{DeviceCall}
 use Rattle.vfs_model.specs.declared.cache.DeviceCall.TheVariants as call
 use Rattle.vfs_model.specs.declared.cache.Resident.{Resident}
 

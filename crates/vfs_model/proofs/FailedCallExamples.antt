@@ -1,20 +1,15 @@
 -- Worked examples of calls that fail, and of calls that are not made.
-use Rattle.std.specs.Prelude.{◌≡◌, ℕ, ◌-◌, true, false, Some, None, List, [], ◌∷◌, ◌++◌, codes, map, replicate, Ok, Err, refl}
+use Rattle.std.specs.Prelude.{◌≡◌, ℕ, ◌-◌, true, false, [], ◌∷◌, ◌++◌, codes, map, replicate, Ok, Err, refl}
 use Rattle.std.specs.List.{range_with_len}
-use Rattle.vfs_base.specs.declared.deck.Act.TheVariants as act
-use Rattle.vfs_base.specs.declared.deck.Deck.{Deck}
-use Rattle.vfs_base.specs.declared.entry.Entry.{Entry}
-use Rattle.vfs_base.specs.declared.entry.Mark.{Mark}
 use Rattle.vfs_base.specs.declared.entry.Mark.TheVariants as mark
-use Rattle.vfs_base.specs.declared.entry.Who.TheVariants as who
 use Rattle.vfs_base.specs.declared.kinds.Kind.TheVariants as kind
 use Rattle.vfs_base.specs.declared.step.Step.{Step}
 use Rattle.vfs_base.specs.declared.step.Step.TheVariants as step
-use Rattle.vfs_model.proofs.DeviceExamples.{on_volume, sd0}
+use Rattle.vfs_model.proofs.DeviceExamples.{on_volume}
 use Rattle.vfs_model.proofs.CacheExamples.{reads_and_writes, totals}
-use Rattle.vfs_model.proofs.ExampleSteps.{asks, ends, hold, id, r, rw_creat, steps, to_append}
-use Rattle.vfs_model.specs.Cache.{CacheRun, row_calls}
-use Rattle.vfs_model.specs.FailedCalls.{StoppedRun, stopped_run}
+use Rattle.vfs_model.proofs.ExampleSteps.{asks, ends, hold, id, steps, to_append}
+use Rattle.vfs_model.specs.Cache.{row_calls}
+use Rattle.vfs_model.specs.FailedCalls.{stopped_run}
 use Rattle.vfs_model.specs.declared.cache.CacheState.{CacheState}
 use Rattle.vfs_model.specs.declared.cache.DeviceCall.TheVariants as call
 use Rattle.vfs_model.specs.declared.cache.Resident.{Resident}

@@ -1,5 +1,5 @@
 -- The commands of mappings take replies as they should.
-use Rattle.std.specs.Prelude.{◌∷◌, ℕ, Bool, true, Option, List, [], codes, length}
+use Rattle.std.specs.Prelude.{◌∷◌, ℕ, Bool, true, List, [], codes, length}
 use Rattle.vfs_base.specs.declared.reply.Reply.{Reply}
 use Rattle.vfs_base.specs.declared.reply.Reply.TheVariants as reply
 use Rattle.vfs_base.specs.declared.step.Step.TheVariants as step

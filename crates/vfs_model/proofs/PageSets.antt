@@ -1,10 +1,10 @@
 -- The stored pages in rising order, and the words of their set, are inverse to each other.
-use Rattle.std.specs.Prelude.{◌≡◌, ◌≢◌, ℕ, zero, suc, ◌+◌, ◌-◌, ◌*◌, ◌/◌, ◌%◌, ◌^◌, ◌<◌, ◌≤◌, ◌==◌, Bool, true, false, cond, ◌||◌, bit_and, List, [], ◌∷◌, length, map, filter, slice_index_or, refl, if◌then◌else◌}
+use Rattle.std.specs.Prelude.{◌≡◌, ◌≢◌, ℕ, zero, suc, ◌+◌, ◌*◌, ◌/◌, ◌%◌, ◌^◌, ◌<◌, ◌≤◌, ◌==◌, Bool, true, false, cond, ◌||◌, bit_and, List, [], ◌∷◌, length, map, filter, slice_index_or, refl, if◌then◌else◌}
 use Rattle.std.proofs.Common.{sym, ◌∙◌, ap, ap₂, subst, inl, inr, arith}
 use Rattle.std.proofs.lemmas.Bool.Decides.{eqb_tells}
 use Rattle.std.proofs.lemmas.Nat.{and_mask, mod-pow-add, shr-shr}
 use Rattle.std.proofs.lemmas.Simd.{bit_mask_l}
-use Rattle.std.specs.List.{list_any, range_with_len}
+use Rattle.std.specs.List.{range_with_len}
 use Rattle.std.specs.Simd.Lanes.{mask_l}
 use Rattle.vfs_model.specs.PageList.{IsPageSet, IsRising, WordsTellPages, is_among, stored_pages, stored_words, word_pages}
 use Rattle.vfs_model.specs.WrittenBack.{has_page}

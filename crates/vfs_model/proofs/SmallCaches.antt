@@ -1,9 +1,9 @@
 -- How many pages a step leaves in memory.
-use Rattle.std.specs.Prelude.{◌≡◌, ◌≢◌, ℕ, zero, suc, ◌+◌, ◌-◌, ◌*◌, ◌/◌, ◌%◌, ◌<◌, ◌≤◌, ◌==◌, min, Bool, true, false, not, ◌&&◌, ◌||◌, cond, nat_lt, nat_le, is_ok, is_some, Option, Some, None, List, [], ◌∷◌, ◌++◌, length, map, take, drop, filter, count_by, Result, Ok, Err, MatchResult, ◌⊎◌, refl, if◌then◌else◌}
-use Rattle.std.proofs.Common.{sym, ◌∙◌, ap, subst, inl, inr, arith}
+use Rattle.std.specs.Prelude.{◌≡◌, ℕ, zero, suc, ◌+◌, ◌-◌, ◌/◌, ◌%◌, ◌<◌, ◌≤◌, ◌==◌, Bool, true, false, not, ◌&&◌, ◌||◌, cond, nat_lt, nat_le, is_ok, is_some, Option, Some, None, List, [], ◌∷◌, ◌++◌, length, map, take, drop, filter, count_by, Result, Ok, Err, MatchResult, refl, if◌then◌else◌}
+use Rattle.std.proofs.Common.{sym, ◌∙◌, ap, inl, inr, arith}
 use Rattle.std.proofs.lemmas.Bool.{cases_lt}
 use Rattle.std.proofs.lemmas.Bool.Decides.{eqb_tells, leb_tells}
-use Rattle.std.proofs.lemmas.List.{length-map, length-append, length-take, take-append-drop}
+use Rattle.std.proofs.lemmas.List.{length-append, length-take, take-append-drop}
 use Rattle.std.proofs.lemmas.List.Filters.{length-filter_both}
 use Rattle.std.proofs.lemmas.List.Sums.{count_by-le-length, length-filter, sum_by-append}
 use Rattle.std.specs.BTreeSet.{insert_key}
@@ -13,7 +13,7 @@ use Rattle.vfs_base.specs.declared.limits.TheConstants.{PAGE_SIZE, RECLAIM_TARGE
 use Rattle.vfs_base.specs.declared.step.Step.{Step}
 use Rattle.vfs_base.specs.declared.step.Step.TheVariants as step
 use Rattle.vfs_model.specs.Asking.{Asked, run_steps}
-use Rattle.vfs_model.specs.Cache.{CacheRun, begin_run, cut_pages, dirty_pages, evict, evict_last, evict_many, file_size, is_page, is_resident, is_stored, make_clean, make_dirty, move_to_front, pages_of, reclaim, without_last, write_back, write_dirty}
+use Rattle.vfs_model.specs.Cache.{CacheRun, begin_run, dirty_pages, evict, evict_last, evict_many, file_size, is_page, is_resident, is_stored, make_clean, make_dirty, move_to_front, pages_of, reclaim, without_last, write_back}
 use Rattle.vfs_model.specs.CacheLaws.{IsSmall}
 use Rattle.vfs_model.specs.FailedCalls.{◌>>=◌, StoppedRun, bytes_before, clean_page, having_moved, stopped_run, try_bring_in, try_call, try_clean, try_each, try_edit, try_edit_end, try_evict, try_evict_last, try_evict_many, try_move, try_pages, try_reclaim, try_touch, try_truncate, try_write, try_write_back}
 use Rattle.vfs_model.specs.FileMoves.{is_on_cell}

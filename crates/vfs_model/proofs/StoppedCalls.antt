@@ -1,5 +1,5 @@
 -- A step that a failed call stops has made the first calls of the step that nothing stops.
-use Rattle.std.specs.Prelude.{◌≡◌, ◌≢◌, ℕ, zero, suc, ◌+◌, ◌-◌, ◌*◌, ◌/◌, ◌%◌, ◌<◌, ◌≤◌, ◌==◌, Bool, true, false, not, ◌&&◌, ◌||◌, nat_lt, nat_le, is_ok, Option, Some, None, List, [], ◌∷◌, ◌++◌, length, map, take, filter, fold, Result, Ok, Err, ◌⊎◌, refl, if◌then◌else◌}
+use Rattle.std.specs.Prelude.{◌≡◌, ◌≢◌, ℕ, zero, suc, ◌+◌, ◌-◌, ◌/◌, ◌%◌, ◌<◌, ◌≤◌, ◌==◌, Bool, true, false, not, ◌&&◌, ◌||◌, nat_lt, nat_le, is_ok, Option, Some, None, List, [], ◌∷◌, ◌++◌, length, map, take, fold, Result, Ok, Err, ◌⊎◌, refl, if◌then◌else◌}
 use Rattle.std.proofs.Common.{sym, ◌∙◌, ap, subst, inl, inr, arith}
 use Rattle.std.proofs.lemmas.Bool.{cases_lt}
 use Rattle.std.proofs.lemmas.Bool.Decides.{eqb_tells}
@@ -13,7 +13,7 @@ use Rattle.vfs_base.specs.declared.errno.Errno.{Errno}
 use Rattle.vfs_base.specs.declared.limits.TheConstants.{PAGE_SIZE, RECLAIM_TARGET, RESIDENT_PAGES}
 use Rattle.vfs_base.specs.declared.step.Step.{Step}
 use Rattle.vfs_base.specs.declared.step.Step.TheVariants as step
-use Rattle.vfs_model.specs.Cache.{CacheRun, begin_run, bring_in, cache_move, cut_pages, dirty_pages, edit_end, evict, evict_last, evict_many, file_size, is_page, is_resident, is_stored, make_dirty, move_to_front, pages_of, reclaim, row_run, touch, touch_and_edit, truncate, without_last, write_back, write_dirty}
+use Rattle.vfs_model.specs.Cache.{CacheRun, begin_run, bring_in, cache_move, cut_pages, dirty_pages, edit_end, evict, evict_last, evict_many, file_size, is_resident, is_stored, make_dirty, move_to_front, pages_of, reclaim, row_run, touch, touch_and_edit, truncate, without_last, write_back, write_dirty}
 use Rattle.vfs_model.specs.CacheLaws.{PassesCall, StopsAtCall}
 use Rattle.vfs_model.specs.FailedCalls.{◌>>=◌, StoppedRun, bytes_before, clean_page, having_moved, stopped_run, try_bring_in, try_call, try_clean, try_each, try_edit, try_edit_end, try_evict, try_evict_last, try_evict_many, try_move, try_pages, try_reclaim, try_touch, try_truncate, try_write, try_write_back}
 use Rattle.vfs_model.specs.FileMoves.{is_on_cell}

@@ -1,5 +1,5 @@
 -- Worked examples of what is told of a whole schedule.
-use Rattle.std.specs.Prelude.{◌≡◌, ℕ, true, false, Some, None, List, [], ◌∷◌, ◌++◌, codes, map, replicate, refl}
+use Rattle.std.specs.Prelude.{◌≡◌, true, false, Some, None, List, [], ◌∷◌, ◌++◌, codes, map, replicate, refl}
 use Rattle.vfs_base.specs.declared.deck.Act.TheVariants as act
 use Rattle.vfs_base.specs.declared.deck.Deck.{Deck}
 use Rattle.vfs_base.specs.declared.entry.Entry.{Entry}
@@ -12,7 +12,7 @@ use Rattle.vfs_model.proofs.CommandRuns.{shell}
 use Rattle.vfs_model.proofs.ExampleSteps.{steps}
 use Rattle.vfs_model.proofs.TranscriptRuns.{scripts}
 use Rattle.vfs_model.specs.Script.{first_bad_line, first_line_past_size}
-use Rattle.vfs_model.specs.Tally.{asked_of, is_faultless, tally}
+use Rattle.vfs_model.specs.Tally.{asked_of, tally}
 
 abbrev pub clear : Who → Entry
 clear asker = record { who = asker; mark = mark.Clear }

@@ -1,7 +1,7 @@
 -- What a write leaves in a file, and what a step leaves of other files.
-use Rattle.std.specs.Prelude.{◌≡◌, ◌≢◌, ℕ, zero, suc, ◌+◌, ◌-◌, ◌<◌, ◌≤◌, ◌==◌, min, Bool, true, false, ◌&&◌, nat_lt, nat_le, is_ok, Option, Some, None, List, [], ◌∷◌, ◌++◌, length, take, drop, replicate, Result, Ok, Err, refl, if◌then◌else◌}
+use Rattle.std.specs.Prelude.{◌≡◌, ℕ, zero, suc, ◌+◌, ◌-◌, ◌<◌, ◌≤◌, min, Bool, true, false, is_ok, Option, Some, List, [], ◌∷◌, ◌++◌, length, take, drop, replicate, Result, Ok, Err, refl, if◌then◌else◌}
 use Rattle.std.proofs.Common.{sym, ◌∙◌, ap, subst, arith}
-use Rattle.std.proofs.lemmas.List.{append_assoc, drop-append-le, get_or-set_other, length-append, length-replicate, length-take, take-append-le}
+use Rattle.std.proofs.lemmas.List.{append_assoc, get_or-set_other, length-append, length-replicate, length-take, take-append-le}
 use Rattle.std.proofs.Math.Seq.{drop-append_seam, take-append_seam, take-length}
 use Rattle.vfs_base.specs.declared.entry.Mark.{Mark}
 use Rattle.vfs_base.specs.declared.entry.Mark.TheVariants as mark
@@ -10,13 +10,12 @@ use Rattle.vfs_base.specs.declared.errno.Errno.{Errno}
 use Rattle.vfs_base.specs.declared.errno.Errno.TheVariants as errno
 use Rattle.vfs_base.specs.declared.ids.FileId.{FileId}
 use Rattle.vfs_base.specs.declared.kinds.Kind.{Kind}
-use Rattle.vfs_base.specs.declared.reply.Reply.{Reply}
 use Rattle.vfs_base.specs.declared.reply.Reply.TheVariants as reply
 use Rattle.vfs_base.specs.declared.step.Step.{Step}
 use Rattle.vfs_base.specs.declared.step.Step.TheVariants as step
 use Rattle.vfs_model.specs.FileLaws.{ChangesOneRow, WritesPiece}
-use Rattle.vfs_model.specs.FileMoves.{clear_step, file_step, move}
-use Rattle.vfs_model.specs.FileStep.{FileOutcome, bytes_refusals, cut_or_padded, device_refusals, file_refusals, is_of_generation, moved_count, written_at}
+use Rattle.vfs_model.specs.FileMoves.{clear_step, file_step}
+use Rattle.vfs_model.specs.FileStep.{bytes_refusals, cut_or_padded, device_refusals, file_refusals, is_of_generation, moved_count, written_at}
 use Rattle.vfs_model.specs.Homes.{file_at}
 use Rattle.vfs_model.specs.World.{session_of, step_on, step_row, world_step}
 use Rattle.vfs_model.specs.declared.world.FileState.{FileState}

@@ -1,5 +1,5 @@
 -- What a contract sees of a block device, and how calls lead from one value of it to another.
-use Rattle.std.specs.Prelude.{◌≡◌, ℕ, ◌+◌, ◌-◌, ◌^◌, ◌==◌, min, Bool, false, is_some, Option, Some, None, List, [], ◌++◌, length, count_by, slice_index_or}
+use Rattle.std.specs.Prelude.{◌≡◌, ℕ, ◌+◌, ◌-◌, ◌^◌, ◌==◌, min, Bool, false, is_some, Option, Some, None, List, [], length, count_by, slice_index_or}
 use Rattle.std.specs.List.{list_any}
 use Rattle.vfs_base.specs.declared.describe.Counts.{Counts}
 use Rattle.vfs_model.specs.IoTotals.{is_read, is_write}

@@ -1,7 +1,6 @@
 -- Laws of the page cache and of its device's calls.
 use Rattle.std.specs.Prelude.{◌≡◌, ℕ, ◌<◌, ◌≤◌, ◌⊎◌, true, not, is_err, List, [], ◌++◌, length, count_by, take, MatchResult}
 use Rattle.std.specs.List.{list_all}
-use Rattle.vfs_base.specs.declared.describe.Describe.{Describe}
 use Rattle.vfs_base.specs.declared.limits.TheConstants.{RECLAIM_TARGET, RESIDENT_PAGES}
 use Rattle.vfs_base.specs.declared.step.Step.{Step}
 use Rattle.vfs_model.specs.Asking.{Asked, run_steps}

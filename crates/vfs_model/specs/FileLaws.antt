@@ -1,5 +1,5 @@
 -- Laws of the bytes of files.
-use Rattle.std.specs.Prelude.{◌≡◌, ◌≢◌, ℕ, ◌+◌, ◌-◌, ◌<◌, ◌≤◌, min, Option, Some, List, ◌∷◌, length, take, drop, replicate}
+use Rattle.std.specs.Prelude.{◌≡◌, ◌≢◌, ℕ, ◌+◌, ◌-◌, ◌<◌, ◌≤◌, min, Some, List, ◌∷◌, length, take, drop, replicate}
 use Rattle.vfs_base.specs.declared.entry.Mark.{Mark}
 use Rattle.vfs_base.specs.declared.entry.Mark.TheVariants as mark
 use Rattle.vfs_base.specs.declared.entry.Who.{Who}
@@ -8,7 +8,7 @@ use Rattle.vfs_base.specs.declared.reply.Reply.TheVariants as reply
 use Rattle.vfs_base.specs.declared.step.Step.{Step}
 use Rattle.vfs_base.specs.declared.step.Step.TheVariants as step
 use Rattle.vfs_model.specs.FileMoves.{file_step}
-use Rattle.vfs_model.specs.FileStep.{FileOutcome, written_at}
+use Rattle.vfs_model.specs.FileStep.{written_at}
 use Rattle.vfs_model.specs.Homes.{file_at}
 use Rattle.vfs_model.specs.World.{step_row, world_step}
 use Rattle.vfs_model.specs.declared.world.FileState.{FileState}

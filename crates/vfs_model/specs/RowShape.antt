@@ -1,5 +1,5 @@
 -- What is known of a row without its bytes, and what refuses its steps.
-use Rattle.std.specs.Prelude.{◌≡◌, ℕ, List, length, Result, if◌then◌else◌}
+use Rattle.std.specs.Prelude.{◌≡◌, ℕ, length, Result, if◌then◌else◌}
 use Rattle.vfs_base.specs.declared.errno.Errno.{Errno}
 use Rattle.vfs_base.specs.declared.kinds.Kind.{Kind}
 use Rattle.vfs_base.specs.declared.step.Step.{Step}
