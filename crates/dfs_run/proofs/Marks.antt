@@ -5,10 +5,10 @@ use Rattle.vfs_base.specs.declared.entry.Who.{Who}
 use Rattle.vfs_base.specs.declared.step.Step.{Step}
 use Rattle.vfs_model.specs.FileMoves.{fits_file}
 use Rattle.vfs_model.specs.World.{fits_on, fits_step, session_of, step_row}
-use Rattle.vfs_model.specs.declared.world.World.{World}
+use Rattle.vfs_model.specs.declared.world.WorldState.{WorldState}
 
 -- a step may come through
-pub clear_fits : (w : World) (asker : Who) (asked : Step) → fits_step w asker asked mark.Clear ≡ true
+pub clear_fits : (w : WorldState) (asker : Who) (asked : Step) → fits_step w asker asked mark.Clear ≡ true
 unfolding fits_step fits_file
 clear_fits w asker asked = by_row (step_row asked)
   where
@@ -17,7 +17,7 @@ clear_fits w asker asked = by_row (step_row asked)
     by_row (Some row) = refl
 
 -- a step may be refused for want of memory before it has moved a byte
-pub starved_fits : (w : World) (asker : Who) (asked : Step) → fits_step w asker asked (mark.NoMem 0) ≡ true
+pub starved_fits : (w : WorldState) (asker : Who) (asked : Step) → fits_step w asker asked (mark.NoMem 0) ≡ true
 unfolding fits_step fits_file
 starved_fits w asker asked = by_row (step_row asked)
   where

@@ -9,7 +9,7 @@ use Rattle.vfs_model.specs.ScriptRun.{has_ended, opening_state, rom_image, state
 use Rattle.vfs_model.specs.Transcript.{finished_text, shown}
 use Rattle.vfs_model.specs.Turns.{Posts, RunOut, Task, follows_script, keeps_turns, opening_agenda, script_tasks}
 use Rattle.vfs_model.specs.declared.script_form.ScriptForm.TheVariants as form
-use Rattle.vfs_model.specs.declared.world.World.{World}
+use Rattle.vfs_model.specs.declared.world.WorldState.{WorldState}
 use Rattle.std.specs.Prelude.{slice_get}
 use Rattle.script_stage.proofs.Ending.{work-stops}
 use Rattle.script_stage.specs.Scenes.{Scene}
@@ -52,7 +52,7 @@ gives_up old new line breaks = record {
 }
 
 -- a new stage stands before the first line
-pub stands_new : (scene : Scene) (world : World) (describe : Describe)
+pub stands_new : (scene : Scene) (world : WorldState) (describe : Describe)
     → ((deck : Deck) (describe : Describe) → world ≡ opening_world (map rom_image deck.roms) describe → StandsAt scene deck describe (script_tasks deck) [])
     → world ≡ opening_world [] describe → StandsBehind scene describe [] []
 stands_new scene world describe new e = record { stands = λ later. new (shell_deck later) describe e }

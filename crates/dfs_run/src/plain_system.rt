@@ -20,9 +20,9 @@ pub struct PlainSystem {
 }
 
 impl Model for PlainSystem {
-    ghost use Rattle.vfs_model.specs.declared.world.World.{World};
+    ghost use Rattle.vfs_model.specs.declared.world.WorldState.{WorldState};
 
-    ghost Value = { World };
+    ghost Value = { WorldState };
 
     ghost view = { λ system. system.world };
 }

@@ -10,7 +10,7 @@ ghost use Rattle.fd_table.specs.FdFault.{errno_of};
 
 use crate::exit::nth_hold;
 use crate::fd_fault::FdFault;
-use crate::offset::{sought_place, whence_place};
+use crate::offset::{sought_offset, whence_offset};
 use crate::places::{first_free, has_free, is_led_once, number_at};
 use std::alloc::Global;
 use std::marker::Model;
@@ -62,7 +62,7 @@ impl FdTable {
     pub fn add(&mut self, file: OpenFile) -> Result<u64, FdFault>
         ensures ok { IfOk result
             (λ fd. add_file self.old file ≡ Ok (record { fd = fd; open_files = self.new })) }
-        ensures err { IfErr result (λ fault. add_file self.old file ≡ Err (errno_of fault)) }
+        ensures fault { IfErr result (λ fault. add_file self.old file ≡ Err (errno_of fault)) }
         ensures refused { OnErr result (self.new ≡ self.old) }
     {
         if !has_free(&self.descriptors) {
@@ -78,7 +78,7 @@ impl FdTable {
     /// The open file of a descriptor; `EBADF` where it is free or out of range.
     pub fn get(&self, fd: u64) -> Result<&OpenFile, FdFault>
         ensures ok { IfOk result (λ file. open_file self.now fd ≡ Ok file.now) }
-        ensures err { IfErr result (λ fault. open_file self.now fd ≡ Err (errno_of fault)) }
+        ensures fault { IfErr result (λ fault. open_file self.now fd ≡ Err (errno_of fault)) }
     {
         let Some(number) = number_at(&self.descriptors, fd) else {
             return Err(FdFault::EBADF);
@@ -94,7 +94,7 @@ impl FdTable {
     #[tactic(auto, unfolding(vfs_model::specs::OpenFiles::set_place))]
     pub fn set_place(&mut self, fd: u64, place: u64) -> Result<(), FdFault>
         ensures ok { OnOk result (set_place self.old fd place ≡ Ok self.new) }
-        ensures err { IfErr result (λ fault. set_place self.old fd place ≡ Err (errno_of fault)) }
+        ensures fault { IfErr result (λ fault. set_place self.old fd place ≡ Err (errno_of fault)) }
         ensures refused { OnErr result (self.new ≡ self.old) }
     {
         let Some(number) = number_at(&self.descriptors, fd) else {
@@ -115,7 +115,7 @@ impl FdTable {
     pub fn dup(&mut self, fd: u64) -> Result<u64, FdFault>
         ensures ok { IfOk result
             (λ new. dup_file self.old fd ≡ Ok (record { fd = new; open_files = self.new })) }
-        ensures err { IfErr result (λ fault. dup_file self.old fd ≡ Err (errno_of fault)) }
+        ensures fault { IfErr result (λ fault. dup_file self.old fd ≡ Err (errno_of fault)) }
         ensures refused { OnErr result (self.new ≡ self.old) }
     {
         let Some(number) = number_at(&self.descriptors, fd) else {
@@ -138,14 +138,14 @@ impl FdTable {
     pub fn seek(&mut self, fd: u64, off: i64, whence: Whence) -> Result<u64, FdFault>
         ensures ok { IfOk result
             (λ place. seek self.old fd off whence ≡ Ok (record { place = place; open_files = self.new })) }
-        ensures err { IfErr result (λ fault. seek self.old fd off whence ≡ Err (errno_of fault)) }
+        ensures fault { IfErr result (λ fault. seek self.old fd off whence ≡ Err (errno_of fault)) }
         ensures refused { OnErr result (self.new ≡ self.old) }
     {
         let file = match self.get(fd) {
             Ok(file) => file,
             Err(fault) => return Err(fault),
         };
-        let place = match sought_place(whence_place(file, whence), off) {
+        let place = match sought_offset(whence_offset(file, whence), off) {
             Ok(place) => place,
             Err(fault) => return Err(fault),
         };
@@ -161,7 +161,7 @@ impl FdTable {
     pub fn close(&mut self, fd: u64) -> Result<Option<OpenFile>, FdFault>
         ensures ok { IfOk result
             (λ last. close_file self.old fd ≡ Ok (record { last = last; open_files = self.new })) }
-        ensures err { IfErr result (λ fault. close_file self.old fd ≡ Err (errno_of fault)) }
+        ensures fault { IfErr result (λ fault. close_file self.old fd ≡ Err (errno_of fault)) }
         ensures refused { OnErr result (self.new ≡ self.old) }
     {
         let Some(number) = number_at(&self.descriptors, fd) else {

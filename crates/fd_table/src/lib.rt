@@ -13,5 +13,5 @@ mod places;
 
 pub use fd_fault::FdFault;
 pub use fd_table::FdTable;
-pub use offset::{PLACE_MAX, moved_place};
+pub use offset::{OFFSET_MAX, moved_offset};
 pub use vfs_model::{OpenFile, Whence};

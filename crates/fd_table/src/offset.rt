@@ -1,7 +1,7 @@
 //! Places of open files, and offsets between them.
 
 ghost use Rattle.std.specs.Prelude.{◌≡◌, Ok, Err, IfOk, IfErr};
-ghost use Rattle.vfs_model.specs.OpenFiles.{moved_place, sought_place, whence_place};
+ghost use Rattle.vfs_model.specs.OpenFiles.{moved_offset, sought_offset, whence_offset};
 ghost use Rattle.fd_table.specs.FdFault.{errno_of};
 
 use crate::fd_fault::FdFault;
@@ -10,18 +10,18 @@ use vfs_model::{OpenFile, Whence};
 
 /// The greatest place of an open file: a write or a read of the greatest size may end a little
 /// behind the greatest offset that a seek leads to.
-pub const PLACE_MAX: u64 = 0x8000_0000_0010_0000;
+pub const OFFSET_MAX: u64 = 0x8000_0000_0010_0000;
 
 /// The place so many bytes on, where no place is behind `PLACE_MAX`.
-pub fn moved_place(place: u64, count: u64) -> u64
-    ensures { result ≡ moved_place place count }
+pub fn moved_offset(place: u64, count: u64) -> u64
+    ensures { result ≡ moved_offset place count }
 {
-    place.saturating_add(count).min(PLACE_MAX)
+    place.saturating_add(count).min(OFFSET_MAX)
 }
 
 // Where an offset is counted from.
-pub(crate) fn whence_place(file: &OpenFile, whence: Whence) -> u64
-    ensures { result ≡ whence_place file.now whence }
+pub(crate) fn whence_offset(file: &OpenFile, whence: Whence) -> u64
+    ensures { result ≡ whence_offset file.now whence }
 {
     match whence {
         Whence::Set => 0,
@@ -31,9 +31,9 @@ pub(crate) fn whence_place(file: &OpenFile, whence: Whence) -> u64
 }
 
 // The place at an offset from another one.
-pub(crate) fn sought_place(from: u64, off: i64) -> Result<u64, FdFault>
-    ensures ok { IfOk result (λ place. sought_place from off ≡ Ok place) }
-    ensures err { IfErr result (λ fault. sought_place from off ≡ Err (errno_of fault)) }
+pub(crate) fn sought_offset(from: u64, off: i64) -> Result<u64, FdFault>
+    ensures ok { IfOk result (λ place. sought_offset from off ≡ Ok place) }
+    ensures fault { IfErr result (λ fault. sought_offset from off ≡ Err (errno_of fault)) }
 {
     let place = from as i128 + off as i128;
     if place < 0 {

@@ -24,7 +24,7 @@ pub fn may_map(
     wants_write: bool,
 ) -> Result<(), MapFault>
     ensures ok { OnOk result (may_map kind reads writes off len wants_write ≡ Ok tt) }
-    ensures err { IfErr result
+    ensures fault { IfErr result
         (λ fault. may_map kind reads writes off len wants_write ≡ Err (errno_of fault)) }
 {
     if len == 0 || off % PAGE_SIZE != 0 {

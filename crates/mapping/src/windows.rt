@@ -57,7 +57,7 @@ impl Windows {
         requires { window.off + window.len ≤ OFF_MAX }
         ensures ok { IfOk result (λ number.
             add_mapping self.old window ≡ Ok (record { number = number; mappings = self.new })) }
-        ensures err { IfErr result (λ fault. add_mapping self.old window ≡ Err (errno_of fault)) }
+        ensures fault { IfErr result (λ fault. add_mapping self.old window ≡ Err (errno_of fault)) }
         ensures refused { OnErr result (self.new ≡ self.old) }
     {
         if !has_free(&self.places) {
@@ -84,7 +84,7 @@ impl Windows {
     ) -> Result<(FileId, u64), MapFault>
         ensures ok { IfOk result (λ found. check_mapping self.now number off len write
             ≡ Ok (record { file = found.0; place = found.1 })) }
-        ensures err { IfErr result
+        ensures fault { IfErr result
             (λ fault. check_mapping self.now number off len write ≡ Err (errno_of fault)) }
     {
         let Some(window) = self.get(number) else {
@@ -104,7 +104,7 @@ impl Windows {
     pub fn remove(&mut self, number: u64) -> Result<Window, MapFault>
         ensures ok { IfOk result (λ window.
             remove_mapping self.old number ≡ Ok (record { window = window; mappings = self.new })) }
-        ensures err { IfErr result (λ fault. remove_mapping self.old number ≡ Err (errno_of fault)) }
+        ensures fault { IfErr result (λ fault. remove_mapping self.old number ≡ Err (errno_of fault)) }
         ensures refused { OnErr result (self.new ≡ self.old) }
     {
         let Some(window) = window_at(&self.places, number) else {

@@ -59,7 +59,7 @@ fn open(alloc: Global, words: &[Bytes], desk: &Desk) -> Result<FileCommand, NoMe
 /// The open file of a descriptor; `EBADF` where there is none (POSIX.1-2017, read).
 pub fn open_file(fds: &FdTable, fd: u64) -> Result<OpenFile, Errno>
     ensures ok { IfOk result (λ opened. open_file_of fds.now fd ≡ Ok opened) }
-    ensures err { IfErr result (λ errno. open_file_of fds.now fd ≡ Err errno) }
+    ensures fault { IfErr result (λ errno. open_file_of fds.now fd ≡ Err errno) }
 {
     match fds.get(fd) {
         Ok(file) => Ok(*file),
@@ -70,7 +70,7 @@ pub fn open_file(fds: &FdTable, fd: u64) -> Result<OpenFile, Errno>
 // The open file of a descriptor, to read so many bytes.
 fn read_checks(fds: &FdTable, fd: u64, n: u64) -> Result<OpenFile, Errno>
     ensures ok { IfOk result (λ opened. read_checks_of fds.now fd n ≡ Ok opened) }
-    ensures err { IfErr result (λ errno. read_checks_of fds.now fd n ≡ Err errno) }
+    ensures fault { IfErr result (λ errno. read_checks_of fds.now fd n ≡ Err errno) }
 {
     let opened = open_file(fds, fd)?;
     if !opened.reads {
@@ -120,7 +120,7 @@ fn read(alloc: Global, words: &[Bytes], desk: &Desk) -> Result<FileCommand, NoMe
 // The open file of a descriptor, to write so many bytes.
 fn write_checks(fds: &FdTable, fd: u64, size: u64) -> Result<OpenFile, Errno>
     ensures ok { IfOk result (λ opened. write_checks_of fds.now fd size ≡ Ok opened) }
-    ensures err { IfErr result (λ errno. write_checks_of fds.now fd size ≡ Err errno) }
+    ensures fault { IfErr result (λ errno. write_checks_of fds.now fd size ≡ Err errno) }
 {
     let opened = open_file(fds, fd)?;
     if !opened.writes {
@@ -181,7 +181,7 @@ fn write(alloc: Global, words: &[Bytes], desk: &Desk) -> Result<FileCommand, NoM
 // The open file of a descriptor that has a place.
 fn placed_file(fds: &FdTable, fd: u64) -> Result<OpenFile, Errno>
     ensures ok { IfOk result (λ opened. placed_file_of fds.now fd ≡ Ok opened) }
-    ensures err { IfErr result (λ errno. placed_file_of fds.now fd ≡ Err errno) }
+    ensures fault { IfErr result (λ errno. placed_file_of fds.now fd ≡ Err errno) }
 {
     let opened = open_file(fds, fd)?;
     if matches!(opened.kind, Kind::Chr) {
@@ -305,7 +305,7 @@ fn dup(alloc: Global, words: &[Bytes], desk: &mut Desk) -> Result<FileCommand, N
 // The open file of a descriptor, to cut it.
 fn cut_checks(fds: &FdTable, fd: u64) -> Result<OpenFile, Errno>
     ensures ok { IfOk result (λ opened. cut_checks_of fds.now fd ≡ Ok opened) }
-    ensures err { IfErr result (λ errno. cut_checks_of fds.now fd ≡ Err errno) }
+    ensures fault { IfErr result (λ errno. cut_checks_of fds.now fd ≡ Err errno) }
 {
     let opened = open_file(fds, fd)?;
     if !opened.writes {

@@ -15,7 +15,7 @@ ghost use Rattle.msh_desk.specs.FitsReply.{TakesReply};
 ghost use Rattle.msh_desk.specs.State.{state_of};
 
 use bitflags::Flags;
-use fd_table::moved_place;
+use fd_table::moved_offset;
 use msh_desk::{Desk, ask, copy_word, done_or_fails, finished};
 use msh_forms::{bytes_text, descriptor_text, number_text, push_subject_error, subject_error_text};
 use std::alloc::Global;
@@ -418,7 +418,7 @@ fn read_replied(
 {
     match reply {
         Reply::Got { bytes } => {
-            let place = moved_place(file.place, bytes.len() as u64);
+            let place = moved_offset(file.place, bytes.len() as u64);
             put_place(desk, fd, file.kind, place);
             let text = bytes_text(alloc, bytes.as_slice())?;
             Ok(shown(text))

@@ -28,7 +28,7 @@ fn usage(alloc: Global, form: &[u8]) -> Result<MappingCommand, NoMemory>
 #[tactic(auto, using(crate::proofs::MappingWords::mapped_within))]
 fn map_checks(desk: &Desk, fd: u64, off: u64, len: u64, writes: bool) -> Result<MapPart, Errno>
     ensures ok { IfOk result (λ part. (map_checks_of (state_of desk.now) fd off len writes ≡ Ok part.file) × ((part.off ≡ off) × ((part.len ≡ len) × (part.writes ≡ writes)))) }
-    ensures err { IfErr result (λ errno. map_checks_of (state_of desk.now) fd off len writes ≡ Err errno) }
+    ensures fault { IfErr result (λ errno. map_checks_of (state_of desk.now) fd off len writes ≡ Err errno) }
 {
     let file = open_file(&desk.fds, fd)?;
     if let Err(fault) = may_map(file.kind, file.reads, file.writes, off, len, writes) {
@@ -85,7 +85,7 @@ fn mmap(alloc: Global, words: &[Bytes], desk: &Desk) -> Result<MappingCommand, N
 // Where the part lies that is read.
 fn load_checks(windows: &Windows, number: u64, off: u64, len: u64) -> Result<(FileId, u64), Errno>
     ensures ok { IfOk result (λ found. load_checks_of windows.now number off len ≡ Ok (record { file = found.0; place = found.1 })) }
-    ensures err { IfErr result (λ errno. load_checks_of windows.now number off len ≡ Err errno) }
+    ensures fault { IfErr result (λ errno. load_checks_of windows.now number off len ≡ Err errno) }
 {
     if READ_MAX < len {
         return Err(Errno::EINVAL);

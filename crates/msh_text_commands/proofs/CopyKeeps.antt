@@ -9,7 +9,7 @@ use Rattle.vfs_base.specs.declared.step.Step.{Step}
 use Rattle.vfs_base.specs.declared.step.Step.TheVariants as step
 use Rattle.vfs_model.specs.CopyCommands.{CopyStage, Reads, Writes, close_both, close_source, copy_bytes, copy_closed, copy_cut, copy_fails, copy_from_start, copy_got, copy_left, copy_round, destination_opened, is_cut, same_file, source_opened}
 use Rattle.vfs_model.specs.Mappings.{is_chr}
-use Rattle.vfs_model.specs.OpenFiles.{moved_place}
+use Rattle.vfs_model.specs.OpenFiles.{moved_offset}
 use Rattle.vfs_model.specs.Talk.{After, Again, Round, Talk, ask_holding, round_talk, shows}
 use Rattle.vfs_model.specs.declared.shell_state.ShellState.{ShellState}
 use Rattle.msh_text_commands.specs.CopyTalks.{IsAsking, both, copy_after, copy_from, copy_talk, file_of, own_behind, own_both_opened, own_done, own_opened, own_read, own_source, own_written}
@@ -88,7 +88,7 @@ left_leaves src dst place (byte ∷ bytes) state = (refl, refl)
 
 written_leaves : (src dst : CopyEnd) (place : ℕ) (bytes : List ℕ) (reply : Reply) (state : ShellState) →
     Leaves (λ now later. copy_from src dst (Writes place bytes) now (reply ∷ later)) state (own_written (both src dst) reply)
-written_leaves src dst place bytes (reply.Count n end) state = left_leaves src dst (moved_place place n) (drop n bytes) state
+written_leaves src dst place bytes (reply.Count n end) state = left_leaves src dst (moved_offset place n) (drop n bytes) state
 written_leaves src dst place bytes (reply.Refused errno) state = (refl, refl)
 written_leaves src dst place bytes _ state = (refl, refl)
 

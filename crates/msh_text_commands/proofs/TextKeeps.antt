@@ -8,7 +8,7 @@ use Rattle.vfs_base.specs.declared.reply.Reply.{Reply}
 use Rattle.vfs_base.specs.declared.reply.Reply.TheVariants as reply
 use Rattle.vfs_base.specs.declared.step.Step.{Step}
 use Rattle.vfs_base.specs.declared.step.Step.TheVariants as step
-use Rattle.vfs_model.specs.OpenFiles.{moved_place}
+use Rattle.vfs_model.specs.OpenFiles.{moved_offset}
 use Rattle.vfs_model.specs.TextCommands.{CatStage, cat_files, cat_opened, cat_round, closed, closes, echo_left, echo_opened, echo_round, echo_text, is_read_out}
 use Rattle.vfs_model.specs.Talk.{After, Again, Round, Talk, round_talk, shows}
 use Rattle.vfs_model.specs.declared.shell_state.ShellState.{ShellState}
@@ -86,7 +86,7 @@ cat_round_leaves : (reading : CatReading) (reply : Reply) (state : ShellState) �
 cat_round_leaves reading (reply.Got bytes) state whole =
     cond_both (is_read_out reading.kind bytes)
     (After (closes (codes "cat") reading.word reading.hold (reading.text ++ bytes) (cat_files reading.others.items)))
-    (Again (record { place = moved_place reading.place (length bytes); text = reading.text ++ bytes }))
+    (Again (record { place = moved_offset reading.place (length bytes); text = reading.text ++ bytes }))
     (λ round. Leaves (λ now later. round_talk (λ stage after behind. cat_from reading stage now later) round now later) state (step.Close reading.hold ∷ []))
     (λ _. (refl, refl)) (λ _. (refl, refl))
 cat_round_leaves reading (reply.Refused errno) state whole = (refl, refl)

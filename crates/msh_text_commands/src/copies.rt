@@ -10,7 +10,7 @@ ghost use Rattle.msh_text_commands.specs.CopyTalks.{IsAsking, both, copy_after, 
 use crate::copy_end::CopyEnd;
 use crate::unwritten::Unwritten;
 use bitflags::Flags;
-use fd_table::moved_place;
+use fd_table::moved_offset;
 use msh_desk::{ask, copy_word, finished};
 use msh_forms::{push_subject_error, subject_error_text};
 use std::alloc::Global;
@@ -444,7 +444,7 @@ fn copy_written(
     match reply {
         Reply::Count { n, .. } => {
             bytes.advance(*n);
-            Ok(copy_left(alloc, src, dst, moved_place(place, *n), bytes))
+            Ok(copy_left(alloc, src, dst, moved_offset(place, *n), bytes))
         }
         Reply::Refused { errno } => {
             let mut text = Bytes::new(alloc);

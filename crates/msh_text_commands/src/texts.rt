@@ -10,7 +10,7 @@ ghost use Rattle.msh_text_commands.specs.TextTalks.{IsAsking, appended_hold, cat
 use crate::cat_reading::CatReading;
 use crate::unwritten::Unwritten;
 use bitflags::Flags;
-use fd_table::moved_place;
+use fd_table::moved_offset;
 use msh_desk::{ask, copy_word, finished};
 use msh_forms::{push_subject_error, subject_error_text};
 use std::alloc::Global;
@@ -315,7 +315,7 @@ fn cat_got(reading: CatReading, bytes: &Bytes) -> Result<TextCommand, NoMemory>
             text,
         });
     }
-    let place = moved_place(place, bytes.len() as u64);
+    let place = moved_offset(place, bytes.len() as u64);
     Ok(TextCommand::CatRead {
         reading: CatReading {
             word,

@@ -10,12 +10,12 @@ use crate::flat::{replace, set};
 use std::alloc::Global;
 use std::mem;
 use vfs_base::{Bytes, Kind, List, PAGE_SIZE, RowId, TMP_FILE_MAX};
-use vfs_model::{DeviceHome, End, FileState, Homes, Namespace, Origin, World};
+use vfs_model::{DeviceHome, End, FileState, Homes, Namespace, Origin, WorldState};
 
 /// Binds the row to a file that begins so. The content is what lies in a rom of it, in memory of its
 /// own, so that binding wants none.
 pub fn bind_file(
-    world: &mut World,
+    world: &mut WorldState,
     alloc: Global,
     row: RowId,
     generation: u64,
@@ -31,7 +31,7 @@ pub fn bind_file(
 }
 
 /// Frees the row. What stays of its file comes home.
-pub fn free_file(world: &mut World, alloc: Global, row: RowId, generation: u64, end: &End)
+pub fn free_file(world: &mut WorldState, alloc: Global, row: RowId, generation: u64, end: &End)
     ensures { world.new ≡ change_row world.old
         (change.Free (record { row = row; generation = generation }) end.now) }
 {
@@ -66,7 +66,7 @@ fn replace_file(
 
 // The file that a row becomes. What it takes from home is gone there.
 fn begin_file(
-    world: &mut World,
+    world: &mut WorldState,
     alloc: Global,
     generation: u64,
     origin: &Origin,

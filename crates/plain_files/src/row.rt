@@ -9,10 +9,10 @@ use crate::flat::{replace, set};
 use crate::step::{fits_file, step_file};
 use std::alloc::Global;
 use vfs_base::{Mark, NoMemory, Reply, RowId, Step};
-use vfs_model::{FileState, World};
+use vfs_model::{FileState, WorldState};
 
 /// Whether a step of the row's file may have the mark.
-pub fn fits_row(world: &World, row: RowId, step: &Step, mark: Mark) -> bool
+pub fn fits_row(world: &WorldState, row: RowId, step: &Step, mark: Mark) -> bool
     ensures { result ≡ fits_file (file_at world.now row) step.now mark }
 {
     match world.files.as_slice().get(row.number() as usize - 1) {
@@ -27,7 +27,7 @@ pub fn fits_row(world: &World, row: RowId, step: &Step, mark: Mark) -> bool
 /// it was.
 #[tactic(auto, using(crate::proofs::PlaceLemmas::replacing))]
 pub fn step_row(
-    world: &mut World,
+    world: &mut WorldState,
     alloc: Global,
     row: RowId,
     step: &Step,

@@ -37,17 +37,17 @@ first_true [] some = absurd (omega (arith, some))
 first_true (true ∷ tests) some = omega arith
 first_true (false ∷ tests) some = omega (arith, first_true tests some)
 
-pub free_length : (lives : List (Option LiveFile)) (generations : List ℕ) →
-    length (map (λ (row : Option LiveFile × ℕ). is_free_row row.0 row.1) (zip lives generations)) ≤ length lives
+pub free_length : (live_files : List (Option LiveFile)) (generations : List ℕ) →
+    length (map (λ (row : Option LiveFile × ℕ). is_free_row row.0 row.1) (zip live_files generations)) ≤ length live_files
 free_length [] generations = omega arith
-free_length (life ∷ lives) [] = omega arith
-free_length (life ∷ lives) (generation ∷ generations) = omega (arith, free_length lives generations)
+free_length (life ∷ live_files) [] = omega arith
+free_length (life ∷ live_files) (generation ∷ generations) = omega (arith, free_length live_files generations)
 
-pub free_row_exists : (n : Namespace) → length n.lives ≡ 1024 → 1 ≤ free_count n → nat_lt ROWS (least_free_row n) ≡ false
-free_row_exists n lives some =
+pub free_row_exists : (n : Namespace) → length n.live_files ≡ 1024 → 1 ≤ free_count n → nat_lt ROWS (least_free_row n) ≡ false
+free_row_exists n live_files some =
     let first : position_or_len (λ test. test) (free_rows n) < length (free_rows n) = first_true (free_rows n) some in
-    let most : length (free_rows n) ≤ length n.lives = free_length n.lives n.generations in
-    let below : least_free_row n ≤ 1024 = omega (arith, first, most, lives) in
+    let most : length (free_rows n) ≤ length n.live_files = free_length n.live_files n.generations in
+    let below : least_free_row n ≤ 1024 = omega (arith, first, most, live_files) in
     grind (arith, nat_tests, below)
 
 count_on : (test : Bool) (tests : List Bool) → count_by (λ test. test) (test ∷ tests) ≡ cond test 1 0 + count_by (λ test. test) tests
@@ -66,15 +66,15 @@ count_set (test ∷ tests) zero new =
 count_set (test ∷ tests) (suc place) new =
     omega (arith, count_on test tests, count_on test (slice_set tests place new), count_set tests place new)
 
-free_set : (lives : List (Option LiveFile)) (generations : List ℕ) (place : ℕ) (life : Option LiveFile) (generation : ℕ) →
-    map (λ (row : Option LiveFile × ℕ). is_free_row row.0 row.1) (zip (slice_set lives place life) (slice_set generations place generation))
-    ≡ slice_set (map (λ (row : Option LiveFile × ℕ). is_free_row row.0 row.1) (zip lives generations)) place (is_free_row life generation)
+free_set : (live_files : List (Option LiveFile)) (generations : List ℕ) (place : ℕ) (life : Option LiveFile) (generation : ℕ) →
+    map (λ (row : Option LiveFile × ℕ). is_free_row row.0 row.1) (zip (slice_set live_files place life) (slice_set generations place generation))
+    ≡ slice_set (map (λ (row : Option LiveFile × ℕ). is_free_row row.0 row.1) (zip live_files generations)) place (is_free_row life generation)
 free_set [] generations place life generation = refl
-free_set (one ∷ lives) [] zero life generation = refl
-free_set (one ∷ lives) [] (suc place) life generation = refl
-free_set (one ∷ lives) (first ∷ generations) zero life generation = refl
-free_set (one ∷ lives) (first ∷ generations) (suc place) life generation =
-    ap (λ later. is_free_row one first ∷ later) (free_set lives generations place life generation)
+free_set (one ∷ live_files) [] zero life generation = refl
+free_set (one ∷ live_files) [] (suc place) life generation = refl
+free_set (one ∷ live_files) (first ∷ generations) zero life generation = refl
+free_set (one ∷ live_files) (first ∷ generations) (suc place) life generation =
+    ap (λ later. is_free_row one first ∷ later) (free_set live_files generations place life generation)
 
 -- a file that takes what it lies on changes no row
 rows_stay : (n : Namespace) (taken : Backing) → free_rows (after_taking n taken) ≡ free_rows n
@@ -86,10 +86,10 @@ pub one_row_taken : (n : Namespace) (row : ℕ) (life : LiveFile) → free_count
 unfolding bind_row
 one_row_taken n row life =
     let stays = rows_stay (record n {
-      lives = slice_set n.lives (row - 1) (Some life);
+      live_files = slice_set n.live_files (row - 1) (Some life);
       generations = slice_set n.generations (row - 1) (slice_index_or n.generations (row - 1) 0 + 1);
     }) life.backing in
-    rw stays (rw (free_set n.lives n.generations (row - 1) (Some life) (slice_index_or n.generations (row - 1) 0 + 1))
+    rw stays (rw (free_set n.live_files n.generations (row - 1) (Some life) (slice_index_or n.generations (row - 1) 0 + 1))
     (count_set (free_rows n) (row - 1) (is_free_row (Some life) (slice_index_or n.generations (row - 1) 0 + 1))))
 
 -- binding a row changes no tree
@@ -136,7 +136,7 @@ pub ready_for_one : {Z Y : Type 0} (n : Namespace) (path : Path) (origin : Optio
     (tree : Vec (Path × NodeKind) Z) (changes : Vec Change Y) →
     IsReady n ((path, origin) ∷ later) tree changes → IsReady n ((path, origin) ∷ []) tree changes
 ready_for_one n path origin later tree changes h = record {
-  lives = h.lives;
+  live_files = h.live_files;
   generations = h.generations;
   places = h.places;
   free = omega (arith, h.free, files_on path origin later, files_on path origin []);
@@ -148,12 +148,12 @@ ready_for_one n path origin later tree changes h = record {
 pub ready_for_later : {Z Y : Type 0} (n m : Namespace) (path : Path) (origin : Option Origin) (later : Content)
     (tree grown : Vec (Path × NodeKind) Z) (changes told : Vec Change Y) →
     IsReady n ((path, origin) ∷ later) tree changes →
-    length m.lives ≡ 1024 → length m.generations ≡ 1024 → m.trees ≡ n.trees → free_count n ≤ free_count m + cond (is_some origin) 1 0 →
+    length m.live_files ≡ 1024 → length m.generations ≡ 1024 → m.trees ≡ n.trees → free_count n ≤ free_count m + cond (is_some origin) 1 0 →
     vec_len grown ≤ vec_len tree + 1 → vec_capacity tree ≤ vec_capacity grown →
     vec_len told ≤ vec_len changes + 1 → vec_capacity changes ≤ vec_capacity told →
     IsReady m later grown told
-ready_for_later n m path origin later tree grown changes told h lives generations trees free len room told_len told_room = record {
-  lives = lives;
+ready_for_later n m path origin later tree grown changes told h live_files generations trees free len room told_len told_room = record {
+  live_files = live_files;
   generations = generations;
   places = ap length trees ∙ h.places;
   free = omega (arith, h.free, free, files_on path origin later);
@@ -164,10 +164,10 @@ ready_for_later n m path origin later tree grown changes told h lives generation
 pub one_file : (path : Path) (begins : Origin) → file_count ((path, Some begins) ∷ []) ≡ 1
 one_file path begins = files_on path (Some begins) []
 
-same_lives : (n : Namespace) (taken : Backing) → (after_taking n taken).lives ≡ n.lives
-same_lives n backing.Memory = refl
-same_lives n (backing.Cell volume cell) = refl
-same_lives n (backing.Device device) = refl
+same_live_files : (n : Namespace) (taken : Backing) → (after_taking n taken).live_files ≡ n.live_files
+same_live_files n backing.Memory = refl
+same_live_files n (backing.Cell volume cell) = refl
+same_live_files n (backing.Device device) = refl
 
 same_generations : (n : Namespace) (taken : Backing) → (after_taking n taken).generations ≡ n.generations
 same_generations n backing.Memory = refl
@@ -179,10 +179,10 @@ same_trees n backing.Memory = refl
 same_trees n (backing.Cell volume cell) = refl
 same_trees n (backing.Device device) = refl
 
-pub bound_lives : (n m : Namespace) (row : ℕ) (life : LiveFile) → m ≡ bind_row n row life → length n.lives ≡ 1024 → length m.lives ≡ 1024
+pub bound_live_files : (n m : Namespace) (row : ℕ) (life : LiveFile) → m ≡ bind_row n row life → length n.live_files ≡ 1024 → length m.live_files ≡ 1024
 unfolding bind_row
-bound_lives n m row life e h =
-    ap (λ (k : Namespace). length k.lives) e ∙ ap length (same_lives _ life.backing) ∙ length-set n.lives (row - 1) (Some life) ∙ h
+bound_live_files n m row life e h =
+    ap (λ (k : Namespace). length k.live_files) e ∙ ap length (same_live_files _ life.backing) ∙ length-set n.live_files (row - 1) (Some life) ∙ h
 
 pub bound_generations : (n m : Namespace) (row : ℕ) (life : LiveFile) → m ≡ bind_row n row life → length n.generations ≡ 1024 → length m.generations ≡ 1024
 unfolding bind_row

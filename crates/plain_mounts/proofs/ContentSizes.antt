@@ -71,4 +71,4 @@ content_fits n fs.Dev source s few =
 pub free_few : (n : Namespace) → IsSized n → free_count n ≤ 1024
 free_few n s =
     let most = count_by-le-length (λ (free : Bool). free) (free_rows n) in
-    omega (arith, most, free_length n.lives n.generations, s.lives)
+    omega (arith, most, free_length n.live_files n.generations, s.live_files)

@@ -40,10 +40,10 @@ pub sized_volume : (n : Namespace) (place : ℕ) (volume : VolumeState) → IsSi
     length volume.spare ≤ 1024 → length volume.pages ≤ 1024 → length volume.kept ≤ 4096 →
     IsSized (record n { volumes = slice_set n.volumes place volume })
 sized_volume n place volume s spare pages kept = record {
-  lives = s.lives;
+  live_files = s.live_files;
   generations = s.generations;
   references = s.references;
-  folders = s.folders;
+  working_directories = s.working_directories;
   short = λ k. s.short k;
   mounts = s.mounts;
   places = s.places;
@@ -91,10 +91,10 @@ sized_emptied rows mount s =
 pub sized_mounts : (n : Namespace) (mounts : List Mount) → IsSized n → length mounts ≤ 15 →
     ((number : ℕ) → is_number (record n { mounts = mounts }) number ≡ false → tree_of n number ≡ []) → IsSized (record n { mounts = mounts })
 sized_mounts n mounts s few unused = record {
-  lives = s.lives;
+  live_files = s.live_files;
   generations = s.generations;
   references = s.references;
-  folders = s.folders;
+  working_directories = s.working_directories;
   short = λ k. s.short k;
   mounts = few;
   places = s.places;
@@ -286,10 +286,10 @@ plain_after_all n next (Err stop) told = tt
 -- an end that a device failed is remembered
 pub sized_stopped : (n : Namespace) (is_stopped : Bool) → IsSized n → IsSized (record n { is_stopped = is_stopped })
 sized_stopped n is_stopped s = record {
-  lives = s.lives;
+  live_files = s.live_files;
   generations = s.generations;
   references = s.references;
-  folders = s.folders;
+  working_directories = s.working_directories;
   short = λ k. s.short k;
   mounts = s.mounts;
   places = s.places;

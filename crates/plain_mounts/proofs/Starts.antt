@@ -87,10 +87,10 @@ trees_of_mount n fs.Rom source = refl
 trees_of_mount n fs.Cell source = refl
 trees_of_mount n fs.Dev source = refl
 
-pub lives_at_start : (n m : Namespace) (mount : Mount) → m ≡ with_tree (with_mount n mount) mount.number [] → m.lives ≡ n.lives
-lives_at_start n m mount e = ap (λ (k : Namespace). k.lives) e ∙ same mount.fs
+pub live_files_at_start : (n m : Namespace) (mount : Mount) → m ≡ with_tree (with_mount n mount) mount.number [] → m.live_files ≡ n.live_files
+live_files_at_start n m mount e = ap (λ (k : Namespace). k.live_files) e ∙ same mount.fs
   where
-    same : (asked : FsType) → (without_kept (record n { mounts = n.mounts ++ mount ∷ [] }) asked mount.source).lives ≡ n.lives
+    same : (asked : FsType) → (without_kept (record n { mounts = n.mounts ++ mount ∷ [] }) asked mount.source).live_files ≡ n.live_files
     same fs.Tmp = refl
     same fs.Rom = refl
     same fs.Cell = refl

@@ -15,7 +15,7 @@ rows_so_far n changes = record { next = n; changes = map row_change changes }
 
 -- how many rows have a file
 abbrev pub live_count : Namespace → ℕ
-live_count n = count_by is_some n.lives
+live_count n = count_by is_some n.live_files
 
 -- no tree has more nodes than before
 abbrev pub TreesShrink : Namespace → Namespace → Type 0
@@ -23,4 +23,4 @@ TreesShrink old new = (number : ℕ) → length (tree_of new number) ≤ length 
 
 -- the rows of a mount's files from this row on, among the live files of these rows
 abbrev pub rows_from : ℕ → ℕ → List (Option LiveFile) → List ℕ
-rows_from number row lives = map (λ row. row.0) (filter (λ row. is_of_mount number row.1) (enumerate_from row lives))
+rows_from number row live_files = map (λ row. row.0) (filter (λ row. is_of_mount number row.1) (enumerate_from row live_files))

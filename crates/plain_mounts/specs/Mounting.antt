@@ -44,7 +44,7 @@ entry_contents roms (Some begins) = origin_content roms begins ∷ []
 
 -- there is room for the content, and so many rows are free
 pub record IsReady {Z Y : Type 0} (n : Namespace) (content : Content) (tree : Vec (Path × NodeKind) Z) (changes : Vec Change Y) : Type 0 where
-  pub lives : length n.lives ≡ 1024
+  pub live_files : length n.live_files ≡ 1024
   pub generations : length n.generations ≡ 1024
   pub places : length n.trees ≡ 16
   pub free : file_count content ≤ free_count n
@@ -53,8 +53,8 @@ pub record IsReady {Z Y : Type 0} (n : Namespace) (content : Content) (tree : Ve
 
 -- how many of these rows are free, and so many more
 abbrev pub free_in : ℕ → List (Option LiveFile) → List ℕ → ℕ
-free_in count lives generations =
-    fold (λ count free. count + cond free 1 0) count (map (λ row. is_free_row row.0 row.1) (zip lives generations))
+free_in count live_files generations =
+    fold (λ count free. count + cond free 1 0) count (map (λ row. is_free_row row.0 row.1) (zip live_files generations))
 
 -- the bytes that the files of a content bring from roms, file by file
 abbrev pub brought_by : List RomImage → Content → List (List ℕ)

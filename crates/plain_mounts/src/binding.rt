@@ -49,7 +49,7 @@ fn add_entry(
     requires { IsReady namespace.old ((path, origin) ∷ []) tree.old changes.old }
     ensures next { add_content mount.now (rows_so_far (with_tree namespace.old mount.now.number tree.old.items) changes.old.items) path origin
         ≡ rows_so_far (with_tree namespace.new mount.now.number tree.new.items) changes.new.items }
-    ensures lives { length namespace.new.lives ≡ 1024 }
+    ensures live_files { length namespace.new.live_files ≡ 1024 }
     ensures generations { length namespace.new.generations ≡ 1024 }
     ensures trees { namespace.new.trees ≡ namespace.old.trees }
     ensures free { free_count namespace.old ≤ free_count namespace.new + cond (is_some origin) 1 0 }
@@ -80,7 +80,7 @@ fn bind_content(
     requires { IsReady namespace.old ((path, Some origin) ∷ []) tree.old changes.old }
     ensures next { bind_content mount.now path origin (rows_so_far (with_tree namespace.old mount.now.number tree.old.items) changes.old.items)
         ≡ rows_so_far (with_tree namespace.new mount.now.number tree.new.items) changes.new.items }
-    ensures lives { length namespace.new.lives ≡ 1024 }
+    ensures live_files { length namespace.new.live_files ≡ 1024 }
     ensures generations { length namespace.new.generations ≡ 1024 }
     ensures trees { namespace.new.trees ≡ namespace.old.trees }
     ensures free { free_count namespace.old ≤ free_count namespace.new + 1 }

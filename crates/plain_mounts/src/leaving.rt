@@ -54,13 +54,13 @@ pub fn remove_mount(
     room: Vec<(Path, KeptNode)>,
     changes: &mut Vec<Change>,
 )
-    requires lives { length namespace.old.lives ≡ 1024 }
+    requires live_files { length namespace.old.live_files ≡ 1024 }
     requires empty { room.items ≡ [] }
     requires names { length (tree_of namespace.old mount.now.number) ≤ vec_capacity room }
     requires room { vec_len changes.old + live_count namespace.old ≤ vec_capacity changes.old }
     ensures next { remove_mount (rows_so_far namespace.old changes.old.items) mount.now
         ≡ rows_so_far namespace.new changes.new.items }
-    ensures lives { length namespace.new.lives ≡ 1024 }
+    ensures live_files { length namespace.new.live_files ≡ 1024 }
     ensures trees { TreesShrink namespace.old namespace.new }
     ensures room { vec_len changes.new + live_count namespace.new ≤ vec_capacity changes.new }
 {
@@ -98,13 +98,13 @@ pub fn empty_mount(
     room: Vec<(Path, KeptNode)>,
     changes: &mut Vec<Change>,
 )
-    requires lives { length namespace.old.lives ≡ 1024 }
+    requires live_files { length namespace.old.live_files ≡ 1024 }
     requires empty { room.items ≡ [] }
     requires names { length (tree_of namespace.old mount.now.number) ≤ vec_capacity room }
     requires room { vec_len changes.old + live_count namespace.old ≤ vec_capacity changes.old }
     ensures next { empty_mount (rows_so_far namespace.old changes.old.items) mount.now
         ≡ rows_so_far namespace.new changes.new.items }
-    ensures lives { length namespace.new.lives ≡ 1024 }
+    ensures live_files { length namespace.new.live_files ≡ 1024 }
     ensures trees { TreesShrink namespace.old namespace.new }
     ensures room { vec_len changes.new + live_count namespace.new ≤ vec_capacity changes.new }
 {
@@ -137,11 +137,11 @@ fn free_rows_of(
     number: MountId,
     changes: &mut Vec<Change>,
 )
-    requires lives { length namespace.old.lives ≡ 1024 }
+    requires live_files { length namespace.old.live_files ≡ 1024 }
     requires room { vec_len changes.old + live_count namespace.old ≤ vec_capacity changes.old }
     ensures next { fold (free_row end_of_unmounted) (rows_so_far namespace.old changes.old.items) (rows_of_mount namespace.old number)
         ≡ rows_so_far namespace.new changes.new.items }
-    ensures lives { length namespace.new.lives ≡ 1024 }
+    ensures live_files { length namespace.new.live_files ≡ 1024 }
     ensures trees { namespace.new.trees ≡ namespace.old.trees }
     ensures room { vec_len changes.new + live_count namespace.new ≤ vec_capacity changes.new }
 {
@@ -160,12 +160,12 @@ fn free_if_of(
     changes: &mut Vec<Change>,
 )
     requires place { place < 1024 }
-    requires lives { length namespace.old.lives ≡ 1024 }
+    requires live_files { length namespace.old.live_files ≡ 1024 }
     requires room { vec_len changes.old + live_count namespace.old ≤ vec_capacity changes.old }
     ensures next { rows_so_far namespace.new changes.new.items
         ≡ (if is_of_mount number (life_at namespace.old (place + 1)) then free_row end_of_unmounted (rows_so_far namespace.old changes.old.items) (place + 1) else rows_so_far namespace.old changes.old.items) }
-    ensures later { drop (place + 1) namespace.new.lives ≡ drop (place + 1) namespace.old.lives }
-    ensures lives { length namespace.new.lives ≡ 1024 }
+    ensures later { drop (place + 1) namespace.new.live_files ≡ drop (place + 1) namespace.old.live_files }
+    ensures live_files { length namespace.new.live_files ≡ 1024 }
     ensures trees { namespace.new.trees ≡ namespace.old.trees }
     ensures room { vec_len changes.new + live_count namespace.new ≤ vec_capacity changes.new }
 {
@@ -182,7 +182,11 @@ fn free_if_of(
 fn has_file_of(namespace: &Namespace, number: MountId, row: RowId) -> bool
     ensures { result ≡ is_of_mount number (life_at namespace.now row) }
 {
-    match namespace.lives.as_slice().get(row.number() as usize - 1) {
+    match namespace
+        .live_files
+        .as_slice()
+        .get(row.number() as usize - 1)
+    {
         Some(life) => is_of_mount(number, life),
         None => false,
     }
@@ -211,7 +215,11 @@ fn kept_node(namespace: &Namespace, node: NodeKind) -> KeptNode
 fn cell_of_row(namespace: &Namespace, row: RowId) -> KeptNode
     ensures { result ≡ cell_of (backing_of (life_at namespace.now row)) }
 {
-    match namespace.lives.as_slice().get(row.number() as usize - 1) {
+    match namespace
+        .live_files
+        .as_slice()
+        .get(row.number() as usize - 1)
+    {
         Some(Some(life)) => cell_of(&life.backing),
         Some(None) => KeptNode::Dir,
         None => KeptNode::Dir,
@@ -232,7 +240,11 @@ fn cell_of(backing: &Backing) -> KeptNode
 fn end_of_unmounted(namespace: &Namespace, row: RowId) -> End
     ensures { result ≡ end_of_unmounted (backing_of (life_at namespace.now row)) }
 {
-    match namespace.lives.as_slice().get(row.number() as usize - 1) {
+    match namespace
+        .live_files
+        .as_slice()
+        .get(row.number() as usize - 1)
+    {
         Some(Some(life)) => end_of_backing(&life.backing),
         Some(None) => End::Nothing,
         None => End::Nothing,

@@ -18,14 +18,14 @@ use plain_nodes::sources::volume_named;
 use plain_nodes::stop::Stop;
 use std::alloc::Global;
 use vfs_base::{Bytes, Errno, Mark, NoMemory, Reply, SessionId};
-use vfs_model::{Namespace, World};
+use vfs_model::{Namespace, WorldState};
 
 /// Takes all names from a volume that no mount has, and drops the bytes on its cells.
 ///
 /// # Errors
 /// `ENXIO` where no volume has the name; `EBUSY` where a mount has the volume.
 pub fn mkfs_in(
-    world: &mut World,
+    world: &mut WorldState,
     alloc: Global,
     session: SessionId,
     name: &Bytes,
@@ -50,7 +50,7 @@ pub fn mkfs_in(
 /// device failed; `EBUSY` where the source, or another devfs, is mounted; `ENOSPC` where fewer slots are
 /// free than the source has files.
 pub fn mount_in(
-    world: &mut World,
+    world: &mut WorldState,
     alloc: Global,
     session: SessionId,
     source: &Bytes,
@@ -82,7 +82,7 @@ pub fn mount_in(
 /// The fault of the point's path; `EINVAL` where no mount has the point; `EBUSY` where another mount
 /// lies below it, a reference names it, or a working directory lies in it.
 pub fn umount_in(
-    world: &mut World,
+    world: &mut WorldState,
     alloc: Global,
     session: SessionId,
     point: &Bytes,
@@ -102,7 +102,7 @@ pub fn umount_in(
 /// this is done all the same, the reply is `EIO`, and the namespace remembers it; under want of memory
 /// the reply is `ENOMEM`, and nothing changes.
 #[tactic(auto, unfolding(vfs_model::specs::NamespaceStep::shutdown_step))]
-pub fn shut_down(world: &mut World, alloc: Global, mark: Mark) -> Result<Reply, NoMemory>
+pub fn shut_down(world: &mut WorldState, alloc: Global, mark: Mark) -> Result<Reply, NoMemory>
     requires { IsSized world.old.namespace }
     ensures told { IfOk result (λ reply. namespace_part world.old (shutdown_step world.old.namespace mark) step.Shutdown ≡ leaving world.new reply) }
     ensures folder { IfOk result TellsFolder }

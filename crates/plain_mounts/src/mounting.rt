@@ -75,15 +75,18 @@ fn has_devfs(mounts: &[Mount]) -> bool
 fn free_count(namespace: &Namespace) -> usize
     ensures { result ≡ free_count namespace.now }
 {
-    free_in(namespace.lives.as_slice(), namespace.generations.as_slice())
+    free_in(
+        namespace.live_files.as_slice(),
+        namespace.generations.as_slice(),
+    )
 }
 
-fn free_in(lives: &[Option<LiveFile>], generations: &[u64]) -> usize
-    ensures { result ≡ free_in 0 lives.now generations.now }
+fn free_in(live_files: &[Option<LiveFile>], generations: &[u64]) -> usize
+    ensures { result ≡ free_in 0 live_files.now generations.now }
 {
     let mut later = generations;
     let mut count = 0;
-    for life in lives {
+    for life in live_files {
         let [generation, rest @ ..] = later else {
             return count;
         };
@@ -272,7 +275,7 @@ fn make_mount(
 }
 
 /// The mount stands, and each file that it begins with has a row.
-#[tactic(auto, using(crate::proofs::Starts::start_is, crate::proofs::Starts::lives_at_start, crate::proofs::Starts::generations_at_start), unfolding(vfs_model::specs::MountStep::add_mount))]
+#[tactic(auto, using(crate::proofs::Starts::start_is, crate::proofs::Starts::live_files_at_start, crate::proofs::Starts::generations_at_start), unfolding(vfs_model::specs::MountStep::add_mount))]
 fn add_mount(
     namespace: &mut Namespace,
     alloc: Global,

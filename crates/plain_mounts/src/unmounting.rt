@@ -53,10 +53,12 @@ fn refers_to_mount(number: MountId, reference: &Option<Reference>) -> bool
 }
 
 fn has_folder_in(namespace: &Namespace, number: MountId) -> bool
-    ensures { result ≡ list_any (λ folder. (covering_mount namespace.now folder).number == number) namespace.now.folders }
+    ensures { result ≡ list_any (λ folder. (covering_mount namespace.now folder).number == number) namespace.now.working_directories }
 {
-    let folders = namespace.folders.as_slice();
-    folders.iter().any(|folder| covering_mount(namespace, folder.as_names()).number.number()
+    let working_directories = namespace.working_directories.as_slice();
+    working_directories.iter().any(|folder| covering_mount(namespace, folder.as_names())
+        .number
+        .number()
         == number.number())
 }
 
@@ -104,7 +106,7 @@ fn unmount_point(
     session: SessionId,
     point: &Bytes,
 ) -> Result<List<Change>, Stop>
-    requires { length namespace.old.lives ≡ 1024 }
+    requires { length namespace.old.live_files ≡ 1024 }
     ensures told { Gives (λ changes. record { reply = reply.Done; next = namespace.new; changes = map row_change changes }) result (umount_step namespace.old session point.now) }
     ensures err { OnErr result (namespace.new ≡ namespace.old) }
 {
@@ -175,7 +177,7 @@ pub fn unmount_all(namespace: &mut Namespace, alloc: Global) -> Result<List<Chan
 
 #[tactic(auto, unfolding(vfs_model::specs::UmountSteps::remove_all))]
 fn unmount_each(namespace: &mut Namespace, alloc: Global) -> Result<List<Change>, NoMemory>
-    requires { length namespace.old.lives ≡ 1024 }
+    requires { length namespace.old.live_files ≡ 1024 }
     ensures ok { IfOk result (λ changes. remove_all namespace.old
         ≡ record { next = namespace.new; changes = map row_change changes }) }
     ensures err { OnErr result (namespace.new ≡ namespace.old) }
@@ -209,12 +211,12 @@ fn remove_mounts(
     mut leaving: Vec<Leaving>,
     changes: &mut Vec<Change>,
 )
-    requires lives { length namespace.old.lives ≡ 1024 }
+    requires live_files { length namespace.old.live_files ≡ 1024 }
     requires names { AllAre (HasRoom namespace.old) leaving.items }
     requires room { vec_len changes.old + live_count namespace.old ≤ vec_capacity changes.old }
     ensures next { fold remove_mount (rows_so_far namespace.old changes.old.items) (reverse (map (λ one. one.mount) leaving.items))
         ≡ rows_so_far namespace.new changes.new.items }
-    ensures lives { length namespace.new.lives ≡ 1024 }
+    ensures live_files { length namespace.new.live_files ≡ 1024 }
     ensures trees { TreesShrink namespace.old namespace.new }
     ensures room { vec_len changes.new + live_count namespace.new ≤ vec_capacity changes.new }
 {
@@ -236,6 +238,6 @@ fn room_for_changes(namespace: &Namespace, alloc: Global) -> Result<Vec<Change>,
 fn live_count(namespace: &Namespace) -> usize
     ensures { result ≡ live_count namespace.now }
 {
-    let lives = namespace.lives.as_slice();
-    lives.iter().filter(|life| life.is_some()).count()
+    let live_files = namespace.live_files.as_slice();
+    live_files.iter().filter(|life| life.is_some()).count()
 }

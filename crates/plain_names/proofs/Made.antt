@@ -16,7 +16,7 @@ bound_node : (n : Namespace) (row : ℕ) (life : LiveFile) (q : Path) → node_a
 unfolding bind_row node_at covering_mount
 bound_node n row life q =
     elim life.backing as (λ b. node_at (after_taking (record n {
-      lives = slice_set n.lives (row - 1) (Some life);
+      live_files = slice_set n.live_files (row - 1) (Some life);
       generations = slice_set n.generations (row - 1) (generation_at n row + 1);
     }) b) q ≡ node_at n q) [
       | backing.Memory ↦ refl

@@ -51,10 +51,10 @@ sized_reference n k number reference s =
     let place = 32 * (k - 1) + (number - 1) in
     let same = length-set n.references place reference in
     record {
-      lives = s.lives;
+      live_files = s.live_files;
       generations = s.generations;
       references = omega (arith, same, s.references);
-      folders = s.folders;
+      working_directories = s.working_directories;
       short = λ k. s.short k;
       mounts = s.mounts;
       places = s.places;
@@ -66,23 +66,23 @@ sized_reference n k number reference s =
       unused = λ number h. s.unused number h;
     }
 
-short_at : (folders : List Path) (i : ℕ) (path : Path) (j : ℕ) → length (printed path) ≤ 1024 → length (printed (slice_index_or folders j [])) ≤ 1024 →
-    length (printed (slice_index_or (slice_set folders i path) j [])) ≤ 1024
+short_at : (working_directories : List Path) (i : ℕ) (path : Path) (j : ℕ) → length (printed path) ≤ 1024 → length (printed (slice_index_or working_directories j [])) ≤ 1024 →
+    length (printed (slice_index_or (slice_set working_directories i path) j [])) ≤ 1024
 short_at [] i path j new old = old
-short_at (folder ∷ folders) zero path zero new old = new
-short_at (folder ∷ folders) zero path (suc j) new old = old
-short_at (folder ∷ folders) (suc i) path zero new old = old
-short_at (folder ∷ folders) (suc i) path (suc j) new old = short_at folders i path j new old
+short_at (folder ∷ working_directories) zero path zero new old = new
+short_at (folder ∷ working_directories) zero path (suc j) new old = old
+short_at (folder ∷ working_directories) (suc i) path zero new old = old
+short_at (folder ∷ working_directories) (suc i) path (suc j) new old = short_at working_directories i path j new old
 
 pub sized_folder : (n : Namespace) (k : ℕ) (path : Path) → length (printed path) ≤ 1024 → IsSized n → IsSized (with_folder_of n k path)
 sized_folder n k path new s =
-    let same = length-set n.folders (k - 1) path in
+    let same = length-set n.working_directories (k - 1) path in
     record {
-      lives = s.lives;
+      live_files = s.live_files;
       generations = s.generations;
       references = s.references;
-      folders = omega (arith, same, s.folders);
-      short = λ j. short_at n.folders (k - 1) path (j - 1) new (s.short j);
+      working_directories = omega (arith, same, s.working_directories);
+      short = λ j. short_at n.working_directories (k - 1) path (j - 1) new (s.short j);
       mounts = s.mounts;
       places = s.places;
       trees = λ j. s.trees j;

@@ -132,7 +132,7 @@ fn set_folder(namespace: &mut Namespace, alloc: Global, session: SessionId, path
     ensures sized { IsSized namespace.old → IsSized namespace.new }
 {
     let place = session.number() as usize - 1;
-    flat::set(&mut namespace.folders, alloc, place, path);
+    flat::set(&mut namespace.working_directories, alloc, place, path);
 }
 
 /// The session's working directory (POSIX.1-2017, getcwd).
@@ -142,7 +142,7 @@ pub fn cwd(namespace: &Namespace, alloc: Global, session: SessionId) -> Result<P
     ensures short { IfOk result (λ at. IsSized namespace.now → length (printed at) ≤ 1024) }
 {
     let place = session.number() as usize - 1;
-    match namespace.folders.as_slice().get(place) {
+    match namespace.working_directories.as_slice().get(place) {
         Some(folder) => folder.copy(),
         None => Ok(Path::root(alloc)),
     }

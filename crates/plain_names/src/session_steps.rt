@@ -19,14 +19,14 @@ use plain_nodes::applying::apply;
 use plain_nodes::stop::Stop;
 use std::alloc::Global;
 use vfs_base::{Bytes, HoldId, OpenFlags, Reply, SessionId};
-use vfs_model::{Role, World};
+use vfs_model::{Role, WorldState};
 
 /// What stands at the path (POSIX.1-2017, stat).
 ///
 /// # Errors
 /// The fault of the path; `ENOENT` or `ENOTDIR` of the walk; `ENOENT` where nothing stands there.
 pub fn stat_in(
-    world: &World,
+    world: &WorldState,
     alloc: Global,
     session: SessionId,
     path: &Bytes,
@@ -43,7 +43,7 @@ pub fn stat_in(
 /// # Errors
 /// The fault of the path; `ENOENT` or `ENOTDIR` of the walk; `ENOENT`; `ENOTDIR` for a file.
 pub fn list_in(
-    world: &World,
+    world: &WorldState,
     alloc: Global,
     session: SessionId,
     path: &Bytes,
@@ -56,7 +56,7 @@ pub fn list_in(
 }
 
 /// The session's working directory (POSIX.1-2017, getcwd). Nothing refuses it.
-pub fn cwd_in(world: &World, alloc: Global, session: SessionId) -> Result<Reply, Stop>
+pub fn cwd_in(world: &WorldState, alloc: Global, session: SessionId) -> Result<Reply, Stop>
     ensures told { Gives (leaving world.now) result (world_answer world.now session step.Cwd) }
     ensures folder { IsSized world.now.namespace → IfOk result TellsFolder }
 {
@@ -70,7 +70,7 @@ pub fn cwd_in(world: &World, alloc: Global, session: SessionId) -> Result<Reply,
 /// The fault of the path; `ENOENT` or `ENOTDIR` of the walk; `EEXIST`; `EROFS`; `ENOSPC` where the
 /// mount has 4096 nodes beside its root.
 pub fn mkdir_in(
-    world: &mut World,
+    world: &mut WorldState,
     alloc: Global,
     session: SessionId,
     path: &Bytes,
@@ -90,7 +90,7 @@ pub fn mkdir_in(
 /// The fault of the path; `EBUSY` at a mount's point; `ENOENT` or `ENOTDIR` of the walk; `ENOENT`;
 /// `ENOTDIR` for a file; `EROFS`; `ENOTEMPTY`; `EBUSY` for a session's working directory.
 pub fn rmdir_in(
-    world: &mut World,
+    world: &mut WorldState,
     alloc: Global,
     session: SessionId,
     path: &Bytes,
@@ -110,7 +110,7 @@ pub fn rmdir_in(
 /// # Errors
 /// The fault of the path; `ENOENT` or `ENOTDIR` of the walk; `ENOENT`; `EPERM` for a folder; `EROFS`.
 pub fn unlink_in(
-    world: &mut World,
+    world: &mut WorldState,
     alloc: Global,
     session: SessionId,
     path: &Bytes,
@@ -135,7 +135,7 @@ pub fn unlink_in(
 /// a folder; `ENOTEMPTY`; `EBUSY` for a folder with a working directory at or below it, or a mount
 /// below it, and where the new path is a working directory.
 pub fn rename_in(
-    world: &mut World,
+    world: &mut WorldState,
     alloc: Global,
     session: SessionId,
     old: &Bytes,
@@ -157,7 +157,7 @@ pub fn rename_in(
 /// # Errors
 /// The fault of the path; `ENOENT` or `ENOTDIR` of the walk; `ENOENT`; `ENOTDIR` for a file.
 pub fn chdir_in(
-    world: &mut World,
+    world: &mut WorldState,
     alloc: Global,
     session: SessionId,
     path: &Bytes,
@@ -172,7 +172,7 @@ pub fn chdir_in(
 }
 
 /// Makes `/` the session's working directory. Nothing refuses it.
-pub fn home_in(world: &mut World, alloc: Global, session: SessionId) -> Reply
+pub fn home_in(world: &mut WorldState, alloc: Global, session: SessionId) -> Reply
     ensures told { world_answer world.old session step.Home ≡ Ok (leaving world.new result) }
     ensures folder { TellsFolder result }
     ensures sized { IsSized world.old.namespace → IsSized world.new.namespace }
@@ -189,7 +189,7 @@ pub fn home_in(world: &mut World, alloc: Global, session: SessionId) -> Reply
 /// or `ENOTDIR` of the walk; `EISDIR`; `EEXIST`; `ENOENT`; `EROFS`; `EMFILE` for a session with 32
 /// references; `ENOSPC` for want of a node, a slot or a cell.
 pub fn open_in(
-    world: &mut World,
+    world: &mut WorldState,
     alloc: Global,
     session: SessionId,
     path: &Bytes,
@@ -211,7 +211,7 @@ pub fn open_in(
 /// # Errors
 /// `EBADF` where the session has no such open file.
 pub fn close_in(
-    world: &mut World,
+    world: &mut WorldState,
     alloc: Global,
     session: SessionId,
     hold: &HoldId,
@@ -231,7 +231,7 @@ pub fn close_in(
 /// # Errors
 /// `EBADF` where the session has no such mapping.
 pub fn unmap_in(
-    world: &mut World,
+    world: &mut WorldState,
     alloc: Global,
     session: SessionId,
     hold: &HoldId,
@@ -252,7 +252,7 @@ pub fn unmap_in(
 /// `EBADF` where the session has no such open file; `ENODEV` for a character device; `EMFILE` for a
 /// session with 32 references.
 pub fn map_in(
-    world: &mut World,
+    world: &mut WorldState,
     alloc: Global,
     session: SessionId,
     hold: &HoldId,

@@ -16,25 +16,25 @@ one_on generation generations place h =
     rw e h
 
 -- the generation of the first free row is not the last one
-pub free_row_has_room : (lives : List (Option LiveFile)) (generations : List ℕ) → length lives ≡ length generations →
-    slice_index_or generations (first_free lives generations) 0 < 18446744073709551615
+pub free_row_has_room : (live_files : List (Option LiveFile)) (generations : List ℕ) → length live_files ≡ length generations →
+    slice_index_or generations (first_free live_files generations) 0 < 18446744073709551615
 free_row_has_room [] [] e = omega arith
-free_row_has_room (life ∷ lives) [] e = absurd (omega (arith, e))
+free_row_has_room (life ∷ live_files) [] e = absurd (omega (arith, e))
 free_row_has_room [] (generation ∷ generations) e = absurd (omega (arith, e))
-free_row_has_room (None ∷ lives) (generation ∷ generations) e =
-    let later = free_row_has_room lives generations (omega (arith, e)) in
+free_row_has_room (None ∷ live_files) (generation ∷ generations) e =
+    let later = free_row_has_room live_files generations (omega (arith, e)) in
     elim (nat_lt generation 18446744073709551615) as (λ b. nat_lt generation 18446744073709551615 ≡ b →
-    slice_index_or (generation ∷ generations) (cond (not b) (1 + first_free lives generations) 0) 0 < 18446744073709551615) [
+    slice_index_or (generation ∷ generations) (cond (not b) (1 + first_free live_files generations) 0) 0 < 18446744073709551615) [
       | true ↦ λ t. grind (arith, t)
-      | false ↦ λ t. one_on generation generations (first_free lives generations) later
+      | false ↦ λ t. one_on generation generations (first_free live_files generations) later
     ] refl
-free_row_has_room (Some life ∷ lives) (generation ∷ generations) e =
-    one_on generation generations (first_free lives generations) (free_row_has_room lives generations (omega (arith, e)))
+free_row_has_room (Some life ∷ live_files) (generation ∷ generations) e =
+    one_on generation generations (first_free live_files generations) (free_row_has_room live_files generations (omega (arith, e)))
 
 -- the least free row has a next generation
 pub least_row_has_room : (n : Namespace) (found : Option ℕ) → RowsMatch n →
     IfSome found (λ row. row ≡ least_free_row n) → IfSome found (λ row. generation_at n row < 18446744073709551615)
 least_row_has_room n None e h = tt
 least_row_has_room n (Some row) e h =
-    let same : first_free n.lives n.generations + 1 - 1 ≡ first_free n.lives n.generations = omega arith in
-    rw h (rw same (free_row_has_room n.lives n.generations e))
+    let same : first_free n.live_files n.generations + 1 - 1 ≡ first_free n.live_files n.generations = omega arith in
+    rw h (rw same (free_row_has_room n.live_files n.generations e))

@@ -43,10 +43,10 @@ item_kept_at P (x ∷ xs) (suc i) (suc j) y d p q = item_kept_at P xs i j y d (�
 pub sized_tree : (n : Namespace) (number : ℕ) (tree : Tree) → IsSized n → length tree ≤ 4096 →
     (is_number n number ≡ false → tree ≡ []) → IsSized (with_tree n number tree)
 sized_tree n number tree s l empty = record {
-  lives = s.lives;
+  live_files = s.live_files;
   generations = s.generations;
   references = s.references;
-  folders = s.folders;
+  working_directories = s.working_directories;
   short = λ k. s.short k;
   mounts = s.mounts;
   places = length-set n.trees number tree ∙ s.places;
@@ -131,10 +131,10 @@ sized_cell : (is_spare : Bool) (n : Namespace) (volume cell : ℕ) → IsSized n
 sized_cell is_spare n volume cell s =
     let same = length-set (volume_at n volume).spare cell is_spare in
     record {
-      lives = s.lives;
+      live_files = s.live_files;
       generations = s.generations;
       references = s.references;
-      folders = s.folders;
+      working_directories = s.working_directories;
       short = λ k. s.short k;
       mounts = s.mounts;
       places = s.places;
@@ -151,10 +151,10 @@ sized_cell is_spare n volume cell s =
 
 sized_device : (is_out : Bool) (n : Namespace) (device : ℕ) → IsSized n → IsSized (with_device is_out n device)
 sized_device is_out n device s = record {
-  lives = s.lives;
+  live_files = s.live_files;
   generations = s.generations;
   references = s.references;
-  folders = s.folders;
+  working_directories = s.working_directories;
   short = λ k. s.short k;
   mounts = s.mounts;
   places = s.places;
@@ -177,13 +177,13 @@ sized_end n (end.Spare volume cell) s = sized_cell true n volume cell s
 sized_end n (end.Kept volume cell) s = s
 sized_end n (end.Device device) s = sized_device false n device s
 
-sized_rows : (n : Namespace) (lives : List (Option LiveFile)) (generations : List ℕ) → IsSized n →
-    length lives ≡ 1024 → length generations ≡ 1024 → IsSized (record n { lives = lives; generations = generations })
-sized_rows n lives generations s l g = record {
-  lives = l;
+sized_rows : (n : Namespace) (live_files : List (Option LiveFile)) (generations : List ℕ) → IsSized n →
+    length live_files ≡ 1024 → length generations ≡ 1024 → IsSized (record n { live_files = live_files; generations = generations })
+sized_rows n live_files generations s l g = record {
+  live_files = l;
   generations = g;
   references = s.references;
-  folders = s.folders;
+  working_directories = s.working_directories;
   short = λ k. s.short k;
   mounts = s.mounts;
   places = s.places;
@@ -199,9 +199,9 @@ pub sized_bind : (n : Namespace) (row : ℕ) (life : LiveFile) → IsSized n →
 unfolding bind_row
 sized_bind n row life s =
     sized_taking _ life.backing (sized_rows n _ _ s
-    (length-set n.lives (row - 1) (Some life) ∙ s.lives)
+    (length-set n.live_files (row - 1) (Some life) ∙ s.live_files)
     (length-set n.generations (row - 1) (generation_at n row + 1) ∙ s.generations))
 
 pub sized_freed : (n : Namespace) (row : ℕ) (e : End) → IsSized n → IsSized (freed n row e)
 sized_freed n row e s =
-    sized_end _ e (sized_rows n _ n.generations s (length-set n.lives (row - 1) None ∙ s.lives) s.generations)
+    sized_end _ e (sized_rows n _ n.generations s (length-set n.live_files (row - 1) None ∙ s.live_files) s.generations)

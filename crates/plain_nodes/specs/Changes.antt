@@ -22,7 +22,7 @@ row_changes (Some told) = row_change told ∷ []
 
 -- the namespace in which the row is free, after its file has come to this end
 abbrev pub freed : Namespace → ℕ → End → Namespace
-freed n row end = after_end (record n { lives = slice_set n.lives (row - 1) None }) end
+freed n row end = after_end (record n { live_files = slice_set n.live_files (row - 1) None }) end
 
 -- what it begins with lies in no rom
 abbrev pub is_no_rom : Origin → Bool

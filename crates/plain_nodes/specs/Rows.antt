@@ -7,8 +7,8 @@ use Rattle.vfs_model.specs.declared.namespace.Namespace.{Namespace}
 
 -- the place of the first free row, counted from 0, or the number of rows
 abbrev pub first_free : List (Option LiveFile) → List ℕ → ℕ
-first_free lives generations = position_or_len (λ free. free) (map (λ row. is_free_row row.0 row.1) (zip lives generations))
+first_free live_files generations = position_or_len (λ free. free) (map (λ row. is_free_row row.0 row.1) (zip live_files generations))
 
 -- each row has a generation
 abbrev pub RowsMatch : Namespace → Type 0
-RowsMatch n = length n.lives ≡ length n.generations
+RowsMatch n = length n.live_files ≡ length n.generations

@@ -9,10 +9,10 @@ use Rattle.vfs_model.specs.declared.namespace.Namespace.{Namespace}
 
 -- what code needs to number and to count what a namespace has
 pub record IsSized (n : Namespace) : Type 0 where
-  pub lives : length n.lives ≡ 1024
+  pub live_files : length n.live_files ≡ 1024
   pub generations : length n.generations ≡ 1024
   pub references : length n.references ≤ 256
-  pub folders : length n.folders ≤ 8
+  pub working_directories : length n.working_directories ≤ 8
   pub short : (k : ℕ) → length (printed (folder_of n k)) ≤ 1024
   pub mounts : length n.mounts ≤ 15
   pub places : length n.trees ≡ 16

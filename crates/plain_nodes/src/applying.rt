@@ -11,10 +11,10 @@ use plain_files::flat::replace;
 use plain_files::{bind_file, free_file};
 use std::alloc::Global;
 use vfs_base::{Bytes, List};
-use vfs_model::World;
+use vfs_model::WorldState;
 
 /// Makes the change, if there is one. It brings no bytes from a rom.
-pub fn apply(world: &mut World, alloc: Global, change: Option<Change>)
+pub fn apply(world: &mut WorldState, alloc: Global, change: Option<Change>)
     requires { brings_nothing change ≡ true }
     ensures next { world.new ≡ fold change_row world.old (row_changes change) }
     ensures namespace { world.new.namespace ≡ world.old.namespace }
@@ -26,7 +26,7 @@ pub fn apply(world: &mut World, alloc: Global, change: Option<Change>)
 }
 
 #[tactic(auto, using(crate::proofs::Contents::no_bytes_brought))]
-fn apply_change(world: &mut World, alloc: Global, change: &Change)
+fn apply_change(world: &mut WorldState, alloc: Global, change: &Change)
     requires { brings_no_bytes change.now ≡ true }
     ensures next { world.new ≡ change_row world.old (row_change change.now) }
     ensures namespace { world.new.namespace ≡ world.old.namespace }
@@ -35,7 +35,7 @@ fn apply_change(world: &mut World, alloc: Global, change: &Change)
 }
 
 /// Makes the changes, in their order. They bring no bytes from a rom.
-pub fn apply_all(world: &mut World, alloc: Global, changes: &List<Change>)
+pub fn apply_all(world: &mut WorldState, alloc: Global, changes: &List<Change>)
     requires { list_all brings_no_bytes changes.now ≡ true }
     ensures next { world.new ≡ fold change_row world.old (map row_change changes.now) }
     ensures namespace { world.new.namespace ≡ world.old.namespace }
@@ -49,7 +49,7 @@ pub fn apply_all(world: &mut World, alloc: Global, changes: &List<Change>)
 /// Makes the changes, in their order. For each change the contents have the bytes that it brings
 /// from a rom, in memory of their own, so that nothing can fail.
 pub fn apply_with(
-    world: &mut World,
+    world: &mut WorldState,
     alloc: Global,
     changes: &List<Change>,
     mut contents: List<Bytes>,
@@ -65,7 +65,7 @@ pub fn apply_with(
     }
 }
 
-fn bring(world: &mut World, alloc: Global, change: &Change, content: Bytes)
+fn bring(world: &mut WorldState, alloc: Global, change: &Change, content: Bytes)
     requires { content ≡ change_content world.old.namespace.roms (row_change change.now) }
     ensures next { world.new ≡ change_row world.old (row_change change.now) }
     ensures namespace { world.new.namespace ≡ world.old.namespace }

@@ -28,7 +28,7 @@ pub fn asked_path(
     ensures short { IfOk result (λ path. length (printed path) ≤ 1024) }
 {
     let place = session.number() as usize - 1;
-    match namespace.folders.as_slice().get(place) {
+    match namespace.working_directories.as_slice().get(place) {
         Some(folder) => path_from(alloc, folder, text),
         None => path_from(alloc, &Path::root(alloc), text),
     }

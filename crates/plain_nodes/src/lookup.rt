@@ -171,8 +171,8 @@ fn has_point_below(mounts: &[Mount], path: &[Name]) -> bool
 pub fn is_working_directory(namespace: &Namespace, path: &[Name]) -> bool
     ensures { result ≡ is_working_directory namespace.now path.now }
 {
-    let folders = namespace.folders.as_slice();
-    folders
+    let working_directories = namespace.working_directories.as_slice();
+    working_directories
         .iter()
         .any(|folder| same_path(path, folder.as_names()))
 }
@@ -181,8 +181,8 @@ pub fn is_working_directory(namespace: &Namespace, path: &[Name]) -> bool
 pub fn has_folder_within(namespace: &Namespace, path: &[Name]) -> bool
     ensures { result ≡ has_folder_within namespace.now path.now }
 {
-    let folders = namespace.folders.as_slice();
-    folders
+    let working_directories = namespace.working_directories.as_slice();
+    working_directories
         .iter()
         .any(|folder| is_prefix(path, folder.as_names()))
 }

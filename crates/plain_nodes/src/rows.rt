@@ -36,7 +36,10 @@ pub fn least_free_row(namespace: &Namespace) -> Option<RowId>
     ensures none { is_none result ≡ nat_lt ROWS (least_free_row namespace.now) }
     ensures room { IfSome result (λ row. generation_at namespace.now row < 18446744073709551615) }
 {
-    row_at(first_free(namespace.lives.as_slice(), namespace.generations.as_slice()))
+    row_at(first_free(
+        namespace.live_files.as_slice(),
+        namespace.generations.as_slice(),
+    ))
 }
 
 /// The file of a row in this generation.
@@ -62,12 +65,12 @@ fn row_at(place: usize) -> Option<RowId>
     }
 }
 
-fn first_free(lives: &[Option<LiveFile>], generations: &[u64]) -> usize
-    ensures { result ≡ first_free lives.now generations.now }
+fn first_free(live_files: &[Option<LiveFile>], generations: &[u64]) -> usize
+    ensures { result ≡ first_free live_files.now generations.now }
 {
     let mut later = generations;
     let mut place = 0;
-    for life in lives {
+    for life in live_files {
         let [generation, rest @ ..] = later else {
             return place;
         };
@@ -138,7 +141,7 @@ pub fn bind_row(namespace: &mut Namespace, alloc: Global, row: RowId, life: Live
     let place = row.number() as usize - 1;
     let generation = generation_at(namespace, row) + 1;
     let backing = copy_backing(&life.backing);
-    flat::set(&mut namespace.lives, alloc, place, Some(life));
+    flat::set(&mut namespace.live_files, alloc, place, Some(life));
     flat::set(&mut namespace.generations, alloc, place, generation);
     take_backing(namespace, alloc, &backing);
 }
@@ -219,7 +222,7 @@ pub fn free_row(namespace: &mut Namespace, alloc: Global, row: RowId, end: End) 
 {
     let generation = generation_at(namespace, row);
     let place = row.number() as usize - 1;
-    flat::set(&mut namespace.lives, alloc, place, None);
+    flat::set(&mut namespace.live_files, alloc, place, None);
     give_back(namespace, alloc, &end);
     Change::Free {
         row,
@@ -233,7 +236,7 @@ pub fn end_of_dropped(namespace: &Namespace, row: RowId) -> End
     ensures { result ≡ end_of_dropped (backing_of (life_at namespace.now row)) }
 {
     let place = row.number() as usize - 1;
-    match namespace.lives.as_slice().get(place) {
+    match namespace.live_files.as_slice().get(place) {
         Some(Some(life)) => end_of_backing(&life.backing),
         Some(None) => End::Nothing,
         None => End::Nothing,

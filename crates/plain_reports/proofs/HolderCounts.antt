@@ -42,10 +42,10 @@ paths_fit n s =
     let paths = flat_map (reference_paths n) n.references in
     let point : Mount → Path = λ mount. mount.point in
     let pieces = pieces_fit (reference_paths n) (row_paths_fit n s) n.references in
-    let all : length (holder_paths n) ≡ length (paths ++ n.folders) + length (map point (all_mounts n)) = length-append (paths ++ n.folders) (map point (all_mounts n)) in
-    let others = length-append paths n.folders in
+    let all : length (holder_paths n) ≡ length (paths ++ n.working_directories) + length (map point (all_mounts n)) = length-append (paths ++ n.working_directories) (map point (all_mounts n)) in
+    let others = length-append paths n.working_directories in
     let same = length-map (all_mounts n) point in
-    omega (arith, pieces, all, others, same, s.references, s.folders, s.mounts)
+    omega (arith, pieces, all, others, same, s.references, s.working_directories, s.mounts)
 
 pub rows_fit : (n : Namespace) → IsSized n → length (nameless_rows n) ≤ 4294967295
 rows_fit n s = omega (arith, pieces_fit (nameless_row n) (row_fits n) n.references, s.references)

@@ -64,7 +64,7 @@ fn holder_paths(namespace: &Namespace, alloc: Global) -> Result<List<Path>, NoMe
 {
     let mut paths = List::new(alloc);
     push_references(&mut paths, namespace)?;
-    push_folders(&mut paths, namespace.folders.as_slice())?;
+    push_folders(&mut paths, namespace.working_directories.as_slice())?;
     paths.push(namespace.root.point.copy()?)?;
     push_points(&mut paths, namespace.mounts.as_slice())?;
     Ok(paths)
@@ -140,10 +140,10 @@ fn joined(point: &Path, names: &[Name]) -> Result<Path, NoMemory>
     Ok(path)
 }
 
-fn push_folders(paths: &mut List<Path>, folders: &[Path]) -> Result<(), NoMemory>
-    ensures { OnOk result (paths.new ≡ paths.old ++ folders.now) }
+fn push_folders(paths: &mut List<Path>, working_directories: &[Path]) -> Result<(), NoMemory>
+    ensures { OnOk result (paths.new ≡ paths.old ++ working_directories.now) }
 {
-    for folder in folders {
+    for folder in working_directories {
         paths.push(folder.copy()?)?;
     }
     Ok(())

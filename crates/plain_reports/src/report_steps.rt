@@ -12,11 +12,11 @@ use crate::tables::{cell_files, device_lines, mount_lines};
 use plain_nodes::stop::Stop;
 use std::alloc::Global;
 use vfs_base::{Reply, SessionId};
-use vfs_model::World;
+use vfs_model::WorldState;
 
 /// The mounts in the order of mounting, `/` first, each with its numbers of nodes and of spare
 /// nodes or cells. Nothing refuses it.
-pub fn mounts_in(world: &World, alloc: Global, session: SessionId) -> Result<Reply, Stop>
+pub fn mounts_in(world: &WorldState, alloc: Global, session: SessionId) -> Result<Reply, Stop>
     requires { IsSized world.now.namespace }
     ensures told { Gives (leaving world.now) result (world_answer world.now session step.Mounts) }
     ensures folder { IfOk result TellsFolder }
@@ -27,7 +27,7 @@ pub fn mounts_in(world: &World, alloc: Global, session: SessionId) -> Result<Rep
 
 /// How many holders each path has that has any, in the order of paths, and then each file without a
 /// name, by slot. Nothing refuses it.
-pub fn dentries_in(world: &World, alloc: Global, session: SessionId) -> Result<Reply, Stop>
+pub fn dentries_in(world: &WorldState, alloc: Global, session: SessionId) -> Result<Reply, Stop>
     requires { IsSized world.now.namespace }
     ensures told { Gives (leaving world.now) result (world_answer world.now session step.Dentries) }
     ensures folder { IfOk result TellsFolder }
@@ -37,7 +37,7 @@ pub fn dentries_in(world: &World, alloc: Global, session: SessionId) -> Result<R
 }
 
 /// The files of mounted volumes that stand at a path, by slot. Nothing refuses it.
-pub fn cells_in(world: &World, alloc: Global, session: SessionId) -> Result<Reply, Stop>
+pub fn cells_in(world: &WorldState, alloc: Global, session: SessionId) -> Result<Reply, Stop>
     ensures told { Gives (leaving world.now) result (world_answer world.now session step.Cells) }
     ensures folder { IfOk result TellsFolder }
 {
@@ -47,7 +47,7 @@ pub fn cells_in(world: &World, alloc: Global, session: SessionId) -> Result<Repl
 
 /// The volumes, the character devices and the roms, each in the order handed in, and whether each is
 /// mounted. Nothing refuses it.
-pub fn devices_in(world: &World, alloc: Global, session: SessionId) -> Result<Reply, Stop>
+pub fn devices_in(world: &WorldState, alloc: Global, session: SessionId) -> Result<Reply, Stop>
     ensures told { Gives (leaving world.now) result (world_answer world.now session step.Devices) }
     ensures folder { IfOk result TellsFolder }
 {

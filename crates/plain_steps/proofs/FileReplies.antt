@@ -16,7 +16,7 @@ use Rattle.vfs_model.specs.StepForms.{TellsFolder}
 use Rattle.vfs_model.specs.World.{WorldOutcome, file_part}
 use Rattle.vfs_model.specs.declared.world.FileState.{FileState}
 use Rattle.vfs_model.specs.declared.world.FileState.TheVariants as file
-use Rattle.vfs_model.specs.declared.world.World.{World}
+use Rattle.vfs_model.specs.declared.world.WorldState.{WorldState}
 use Rattle.plain_nodes.specs.WorldAnswer.{leaving}
 
 bytes_told : (generation : ℕ) (kind : Kind) (capacity : ℕ) (bytes : List ℕ) (asked : Step) (count : ℕ) →
@@ -57,11 +57,11 @@ file_told f asked (mark.Fault count) = stopped_told f asked errno.EIO count
 file_told f asked (mark.NoMem count) = stopped_told f asked errno.ENOMEM count
 
 -- nor does the world's step of a row
-told_row : (w new : World) (row : ℕ) (f : FileState) (asked : Step) (m : Mark) (reply : Reply) →
+told_row : (w new : WorldState) (row : ℕ) (f : FileState) (asked : Step) (m : Mark) (reply : Reply) →
     file_part w row (file_step f asked m) ≡ leaving new reply → TellsFolder reply
 told_row w new row f asked m reply same = subst TellsFolder (ap (λ (outcome : WorldOutcome). outcome.reply) same) (file_told f asked m)
 
-pub told_if : (w new : World) (row : ℕ) (f : FileState) (asked : Step) (m : Mark) (result : Result Reply NoMemory) →
+pub told_if : (w new : WorldState) (row : ℕ) (f : FileState) (asked : Step) (m : Mark) (result : Result Reply NoMemory) →
     IfOk result (λ reply. file_part w row (file_step f asked m) ≡ leaving new reply) → IfOk result TellsFolder
 told_if w new row f asked m (Ok reply) same = told_row w new row f asked m reply same
 told_if w new row f asked m (Err fault) same = tt

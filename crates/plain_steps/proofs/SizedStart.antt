@@ -41,10 +41,10 @@ pub sized_start : (roms : List RomImage) (describe : Describe) → AllAre IsSmal
     IsSized (opening_namespace roms describe)
 unfolding opening_namespace
 sized_start roms describe small few = record {
-  lives = length-replicate {A = Option LiveFile} 1024 None;
+  live_files = length-replicate {A = Option LiveFile} 1024 None;
   generations = length-replicate {A = ℕ} 1024 0;
   references = omega (arith, length-replicate {A = Option Reference} 256 None);
-  folders = omega (arith, length-replicate {A = Path} 8 []);
+  working_directories = omega (arith, length-replicate {A = Path} 8 []);
   short = λ k. omega (arith, ap (λ (folder : Path). length (printed folder)) (root_at 8 (k - 1)));
   mounts = omega arith;
   places = length-replicate {A = Tree} 16 [];

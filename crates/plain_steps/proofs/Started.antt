@@ -18,12 +18,12 @@ pub namespace_starts : (roms : List RomImage) (describe : Describe) →
 unfolding opening_namespace
 namespace_starts roms describe = refl
 
-pub slots_stand : (n : Namespace) (trees : List Tree) (lives : List (Option LiveFile)) (generations : List ℕ)
-    (references : List (Option Reference)) (folders : List Path) →
-    trees ≡ replicate 16 [] → lives ≡ replicate 1024 None → generations ≡ replicate 1024 0 → references ≡ replicate 256 None →
-    folders ≡ replicate 8 [] →
-    record n { trees = trees; lives = lives; generations = generations; references = references; folders = folders } ≡ with_slots n
-slots_stand n trees lives generations references folders a b c d e = rw (a, b, c, d, e) refl
+pub slots_stand : (n : Namespace) (trees : List Tree) (live_files : List (Option LiveFile)) (generations : List ℕ)
+    (references : List (Option Reference)) (working_directories : List Path) →
+    trees ≡ replicate 16 [] → live_files ≡ replicate 1024 None → generations ≡ replicate 1024 0 → references ≡ replicate 256 None →
+    working_directories ≡ replicate 8 [] →
+    record n { trees = trees; live_files = live_files; generations = generations; references = references; working_directories = working_directories } ≡ with_slots n
+slots_stand n trees live_files generations references working_directories a b c d e = rw (a, b, c, d, e) refl
 
 pub world_starts : (roms : List RomImage) (describe : Describe) (namespace : Namespace) (files : List FileState) (homes : Homes) →
     namespace ≡ opening_namespace roms describe → files ≡ replicate 1024 (file.Unbound 0) →

@@ -12,10 +12,10 @@ empty_namespace roms = record {
   root = root_mount;
   mounts = [];
   trees = [];
-  lives = [];
+  live_files = [];
   generations = [];
   references = [];
-  folders = [];
+  working_directories = [];
   volumes = [];
   roms = roms;
   devices = [];
@@ -26,10 +26,10 @@ empty_namespace roms = record {
 abbrev pub with_slots : Namespace → Namespace
 with_slots n = record n {
   trees = replicate MOUNTS [];
-  lives = replicate ROWS None;
+  live_files = replicate ROWS None;
   generations = replicate ROWS 0;
   references = replicate (SESSIONS * HOLDS) None;
-  folders = replicate SESSIONS [];
+  working_directories = replicate SESSIONS [];
 }
 
 -- with the devices that were handed in

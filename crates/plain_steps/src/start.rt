@@ -12,7 +12,7 @@ use vfs_base::{
     SESSIONS, VolumeShape, copy_bytes,
 };
 use vfs_model::{
-    DeviceHome, DeviceState, FileState, Homes, Mount, Namespace, RomImage, VolumeState, World,
+    DeviceHome, DeviceState, FileState, Homes, Mount, Namespace, RomImage, VolumeState, WorldState,
 };
 
 /// The world at the start, with these roms and devices.
@@ -21,10 +21,10 @@ pub fn opening_world(
     alloc: Global,
     roms: List<RomImage>,
     describe: &Describe,
-) -> Result<World, NoMemory>
+) -> Result<WorldState, NoMemory>
     ensures { IfOk result (λ world. world ≡ opening_world roms describe.now) }
 {
-    Ok(World {
+    Ok(WorldState {
         namespace: opening_namespace(alloc, roms, describe)?,
         files: no_files(alloc, ROWS as usize)?,
         homes: opening_homes(alloc, describe)?,
@@ -52,10 +52,10 @@ fn empty_namespace(alloc: Global, roms: List<RomImage>) -> Result<Namespace, NoM
         root,
         mounts: List::new(alloc),
         trees: List::new(alloc),
-        lives: List::new(alloc),
+        live_files: List::new(alloc),
         generations: List::new(alloc),
         references: List::new(alloc),
-        folders: List::new(alloc),
+        working_directories: List::new(alloc),
         volumes: List::new(alloc),
         roms,
         devices: List::new(alloc),
@@ -79,10 +79,10 @@ fn add_slots(alloc: Global, namespace: &mut Namespace) -> Result<(), NoMemory>
     ensures { OnOk result (namespace.new ≡ with_slots namespace.old) }
 {
     namespace.trees = empty_lists(alloc, MOUNTS)?;
-    namespace.lives = nothings(alloc, ROWS as usize)?;
+    namespace.live_files = nothings(alloc, ROWS as usize)?;
     namespace.generations = zeros(alloc, ROWS as usize)?;
     namespace.references = nothings(alloc, SESSIONS as usize * HOLDS)?;
-    namespace.folders = roots(alloc, SESSIONS as usize)?;
+    namespace.working_directories = roots(alloc, SESSIONS as usize)?;
     Ok(())
 }
 

@@ -25,11 +25,11 @@ use plain_reports::{cells_in, dentries_in, devices_in, mounts_in};
 use std::alloc::Global;
 use std::marker::Model;
 use vfs_base::{Deck, Describe, Errno, Mark, NoMemory, Reply, RowId, SessionId, Step, Who};
-use vfs_model::World;
+use vfs_model::WorldState;
 
 /// The plain world over flat lists: mounts, trees, files by row, and what lies at home.
 pub struct PlainWorld {
-    pub(crate) world: World,
+    pub(crate) world: WorldState,
 }
 
 // By hand, so that whoever lets a world go makes one call.
@@ -41,10 +41,10 @@ impl Drop for PlainWorld {
 }
 
 impl Model for PlainWorld {
-    ghost use Rattle.vfs_model.specs.declared.world.World.{World};
+    ghost use Rattle.vfs_model.specs.declared.world.WorldState.{WorldState};
     ghost use Rattle.plain_nodes.specs.Sizes.{IsSized};
 
-    ghost Value = { World };
+    ghost Value = { WorldState };
 
     ghost view = { λ plain. plain.world };
 
@@ -147,7 +147,7 @@ fn is_shutdown(step: &Step) -> bool
 
 #[tactic(auto, using(crate::proofs::WorldSteps::asked_by_session))]
 fn step_namespace(
-    world: &mut World,
+    world: &mut WorldState,
     alloc: Global,
     who: Who,
     step: &Step,
@@ -173,7 +173,7 @@ fn step_namespace(
 // A step that a session asks, under a mark.
 #[tactic(auto, using(crate::proofs::WorldSteps::clear_done, crate::proofs::WorldSteps::clear_refused, crate::proofs::WorldSteps::fault_refused, crate::proofs::WorldSteps::want_refused))]
 fn session_step(
-    world: &mut World,
+    world: &mut WorldState,
     alloc: Global,
     session: SessionId,
     step: &Step,
@@ -200,7 +200,7 @@ fn session_step(
 }
 
 fn take_step(
-    world: &mut World,
+    world: &mut WorldState,
     alloc: Global,
     session: SessionId,
     step: &Step,
@@ -239,7 +239,7 @@ fn take_step(
 // Whether a step of the namespace may have the mark.
 #[tactic(auto, using(crate::proofs::WorldSteps::asked_by_session))]
 fn fits_namespace(
-    world: &World,
+    world: &WorldState,
     alloc: Global,
     who: Who,
     step: &Step,

@@ -11,7 +11,7 @@ use Rattle.vfs_base.specs.declared.entry.Who.TheVariants as who
 use Rattle.vfs_base.specs.declared.reply.Reply.{Reply}
 use Rattle.vfs_base.specs.declared.step.Step.{Step}
 use Rattle.vfs_model.specs.Turns.{Leaves, Posts, RunOut, Steps, Task}
-use Rattle.vfs_model.specs.declared.world.World.{World}
+use Rattle.vfs_model.specs.declared.world.WorldState.{WorldState}
 use Rattle.script_stage.proofs.Ending.{exit-stops, work-stops}
 use Rattle.script_stage.proofs.Moving.{got-other, got-same, other-place, passes-event, passes-exit, passes-run, posts-line}
 use Rattle.script_stage.proofs.Turning.{IsExit, exit-moves, turn_taken, work-moves}
@@ -35,7 +35,7 @@ post_done old k place before after line n e found follows deck describe tasks ha
     (posts-line old k after line deck describe tasks handed n
     (λ p f. (let same : before ≡ p = some-same before p (sym found ∙ ap (slice_get old.sessions) e ∙ f) in subst (λ x. FollowsLine x after line) same follows)) at)
 
-pub exit_taken : (old new : Scene) (next : World) (k place : ℕ) (before after : StageSession) (m : Mark) → place ≡ k - 1 → IsExit old next k before after m →
+pub exit_taken : (old new : Scene) (next : WorldState) (k place : ℕ) (before after : StageSession) (m : Mark) → place ≡ k - 1 → IsExit old next k before after m →
     new ≡ record { world = next; sessions = set old.sessions place after; schedule = old.schedule ++ record { who = who.Session k; mark = m } ∷ [] } →
     Leads LeavesAt old new (Leaves k ∷ []) (Leaves k ∷ [])
 exit_taken old new next k place before after m e exit is deck describe tasks handed at =
@@ -43,7 +43,7 @@ exit_taken old new next k place before after m e exit is deck describe tasks han
     (ap (λ i. record { world = next; sessions = set old.sessions i after; schedule = old.schedule ++ record { who = who.Session k; mark = m } ∷ [] }) (sym e) ∙ sym is)
     (exit-moves old next k before after m deck describe tasks handed exit at)
 
-pub work_taken : (old new : Scene) (next : World) (asker : Who) (asked : Step) (m : Mark) (reply : Reply) → IsWork asker asked →
+pub work_taken : (old new : Scene) (next : WorldState) (asker : Who) (asked : Step) (m : Mark) (reply : Reply) → IsWork asker asked →
     TakesStep old.world next asker asked (reply, m) →
     new ≡ record { world = next; sessions = old.sessions; schedule = old.schedule ++ record { who = asker; mark = m } ∷ [] } →
     Does old new (Steps asker ∷ [])
@@ -120,7 +120,7 @@ asking_at now old k place before same e h count is asking =
     asking before (ap (λ s. slice_get s.sessions (k - 1)) (sym same) ∙ found_at old.sessions k place before e h count is)
 
 -- a call that takes a pending command's step
-pub turn_call : (now old new : Scene) (next : World) (k place : ℕ) (before after : StageSession) (m : Mark) → old ≡ now → IsNumber k →
+pub turn_call : (now old new : Scene) (next : WorldState) (k place : ℕ) (before after : StageSession) (m : Mark) → old ≡ now → IsNumber k →
     place ≡ k - 1 → place < 8 → length old.sessions ≡ 8 → before ≡ get_or old.sessions place before → IsAsking now.sessions k →
     TakesWanted before after old.world next k m →
     new ≡ record { world = next; sessions = set old.sessions place after; schedule = old.schedule ++ record { who = who.Session k; mark = m } ∷ [] } →
@@ -135,7 +135,7 @@ turn_call now old new next k place before after m same n e h count is asking tak
     }) new-is)
 
 -- a call that makes an exit step
-pub exit_call : (now old new : Scene) (next : World) (k place : ℕ) (before after : StageSession) (m : Mark) → old ≡ now → IsNumber k →
+pub exit_call : (now old new : Scene) (next : WorldState) (k place : ℕ) (before after : StageSession) (m : Mark) → old ≡ now → IsNumber k →
     place ≡ k - 1 → place < 8 → length old.sessions ≡ 8 → before ≡ get_or old.sessions place before → TakesExit before after old.world next k m →
     new ≡ record { world = next; sessions = set old.sessions place after; schedule = old.schedule ++ record { who = who.Session k; mark = m } ∷ [] } →
     Leads LeavesAt now new (Leaves k ∷ []) (Leaves k ∷ [])
@@ -144,7 +144,7 @@ exit_call now old new next k place before after m same n e h count is taken new-
     (exit_taken old new next k place before after m e (record { number = n; found = found_at old.sessions k place before e h count is; taken = taken }) new-is)
 
 -- a call of the worker
-pub work_call : (now old new : Scene) (next : World) (asker : Who) (asked : Step) (m : Mark) (reply : Reply) → old ≡ now → IsWork asker asked →
+pub work_call : (now old new : Scene) (next : WorldState) (asker : Who) (asked : Step) (m : Mark) (reply : Reply) → old ≡ now → IsWork asker asked →
     TakesStep old.world next asker asked (reply, m) →
     new ≡ record { world = next; sessions = old.sessions; schedule = old.schedule ++ record { who = asker; mark = m } ∷ [] } →
     Does now new (Steps asker ∷ [])
@@ -172,7 +172,7 @@ pub not_asking_at : (p : Phase) → p ≡ phase.Idle → p ≡ phase.Asking → 
 not_asking_at p idle asking = let no : phase.Idle ≡ phase.Asking = sym idle ∙ asking in cc
 
 -- a call that finds no exit step left changes nothing
-pub through_call : (now old : Scene) (next : World) (k place : ℕ) (before after : StageSession) → old ≡ now → place ≡ k - 1 → place < 8 → length old.sessions ≡ 8 →
+pub through_call : (now old : Scene) (next : WorldState) (k place : ℕ) (before after : StageSession) → old ≡ now → place ≡ k - 1 → place < 8 → length old.sessions ≡ 8 →
     before ≡ get_or old.sessions place before → StaysThrough before after old.world next →
     (record { world = next; sessions = set old.sessions place after; schedule = old.schedule } ≡ now) × IsThrough now.sessions k
 through_call now old next k place before after same e h count is stays = (
@@ -218,7 +218,7 @@ breaks_then a b c before more does breaks deck describe tasks handed at =
     (does deck describe (more ++ tasks) handed (subst (λ x. StandsAt a deck describe x handed) (append_assoc before more tasks) at))
 
 -- a call that puts an entry behind the schedule
-pub grows_call : (now old new : Scene) (next : World) (all : List StageSession) (entry : Entry) → old ≡ now → length new.schedule ≤ 2 ^ 64 →
+pub grows_call : (now old new : Scene) (next : WorldState) (all : List StageSession) (entry : Entry) → old ≡ now → length new.schedule ≤ 2 ^ 64 →
     new ≡ record { world = next; sessions = all; schedule = old.schedule ++ entry ∷ [] } → Grows now new
 grows_call now old new next all entry same room is =
     let longer : length new.schedule ≡ length (old.schedule ++ entry ∷ []) = ap (λ s. length s.schedule) is in

@@ -20,7 +20,7 @@ use Rattle.vfs_model.specs.ScriptRun.{RunState, entry_step, heard_by, is_done, o
 use Rattle.vfs_model.specs.Session.{session_run, wanted_step}
 use Rattle.vfs_model.specs.Turns.{Leaves, RunOut, Steps, Task, act_tasks, keeps_turns, opening_agenda, script_tasks}
 use Rattle.vfs_model.specs.World.{WorldOutcome, fits_step, world_step}
-use Rattle.vfs_model.specs.declared.world.World.{World}
+use Rattle.vfs_model.specs.declared.world.WorldState.{WorldState}
 use Rattle.script_stage.proofs.Reaching.{entry-taken, starts, steps, turns-kept}
 use Rattle.script_stage.proofs.SessionLemmas.{exit-shows, exit-wants, idle-leaves, more-shows, work-shows}
 use Rattle.script_stage.specs.Scenes.{IsNumber, Reaches, Scene, handed_of, lines_left, posted_to, task_lines}
@@ -94,7 +94,7 @@ all-posted scene deck describe tasks handed k n at =
     at.0.left k n ∙ ap (λ x. posted_to at.0.posted k ++ x) (at.1 k) ∙ append-nil (posted_to at.0.posted k)
 
 -- the end is taken
-pub ends : (old : Scene) (next : World) (m : Mark) (reply : Reply) (deck : Deck) (describe : Describe) (handed : List ℕ) →
+pub ends : (old : Scene) (next : WorldState) (m : Mark) (reply : Reply) (deck : Deck) (describe : Describe) (handed : List ℕ) →
     ((k : ℕ) → IsNumber k → IsThrough old.sessions k) → TakesStep old.world next who.End step.Shutdown (reply, m) →
     LeavesAt old deck describe (Steps who.End ∷ []) handed →
     ClosesAt (record { world = next; sessions = old.sessions; schedule = old.schedule ++ record { who = who.End; mark = m } ∷ [] }) deck describe handed

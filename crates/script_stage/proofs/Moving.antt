@@ -16,7 +16,7 @@ use Rattle.vfs_model.specs.ScriptRun.{RunState, entry_step, heard_by, state_afte
 use Rattle.vfs_model.specs.Session.{SessionRun, exit_step, is_pending, session_run, wanted_step}
 use Rattle.vfs_model.specs.Turns.{Leaves, Posts, RunOut, Steps, Task, posted_after, posted_run, session_if, task_rest, task_who}
 use Rattle.vfs_model.specs.World.{WorldOutcome, fits_step, world_step}
-use Rattle.vfs_model.specs.declared.world.World.{World}
+use Rattle.vfs_model.specs.declared.world.WorldState.{WorldState}
 use Rattle.msh_session.specs.SessionTalks.{exits_left}
 use Rattle.script_stage.proofs.Reaching.{entry-taken, passes, steps}
 use Rattle.script_stage.proofs.SessionLemmas.{exit-idle, exit-wants, idle-leaves}
@@ -172,7 +172,7 @@ rest-lines posted s (Steps w) tasks asker j e = refl
 rest-lines posted s (Leaves k) tasks asker j e = refl
 
 -- a session's step is taken
-pub session-moves : (Stands : Standing) (old : Scene) (next : World) (k : ℕ) (p : StageSession) (m : Mark) (reply : Reply) (asked : Step)
+pub session-moves : (Stands : Standing) (old : Scene) (next : WorldState) (k : ℕ) (p : StageSession) (m : Mark) (reply : Reply) (asked : Step)
     (deck : Deck) (describe : Describe) (task : Task) (tasks : List Task) (handed : List ℕ) → IsNumber k →
     (at : Plays Stands old deck describe (task ∷ tasks) handed) →
     task_who at.posted at.s task ≡ Some (who.Session k) → entry_step deck at.s (who.Session k) ≡ Some asked →

@@ -14,7 +14,7 @@ use Rattle.vfs_model.specs.ScriptRun.{RunState, entry_step, heard_by, state_afte
 use Rattle.vfs_model.specs.Session.{is_pending, session_run, wanted_step}
 use Rattle.vfs_model.specs.Turns.{Leaves, RunOut, Steps, Task, posted_run, session_if, task_rest, task_who}
 use Rattle.vfs_model.specs.World.{WorldOutcome, fits_step, world_step}
-use Rattle.vfs_model.specs.declared.world.World.{World}
+use Rattle.vfs_model.specs.declared.world.WorldState.{WorldState}
 use Rattle.script_stage.proofs.Moving.{exit-is, session-moves}
 use Rattle.script_stage.proofs.Reaching.{entry-taken, steps}
 use Rattle.script_stage.proofs.SessionLemmas.{asking-pending, asking-wants, exit-wants}
@@ -27,12 +27,12 @@ use Rattle.script_stage.specs.declared.phase.Phase.TheVariants as phase
 use Rattle.script_stage.specs.declared.stage_session.StageSession.{StageSession}
 
 -- the scene after a step of a session
-abbrev pub moved : Scene → World → ℕ → StageSession → Mark → Scene
+abbrev pub moved : Scene → WorldState → ℕ → StageSession → Mark → Scene
 moved old next k p m =
     record { world = next; sessions = set old.sessions (k - 1) p; schedule = old.schedule ++ record { who = who.Session k; mark = m } ∷ [] }
 
 -- A session's pending command has taken a step.
-pub record IsTurn (old : Scene) (next : World) (k : ℕ) (before after : StageSession) (m : Mark) : Type 0 where
+pub record IsTurn (old : Scene) (next : WorldState) (k : ℕ) (before after : StageSession) (m : Mark) : Type 0 where
   pub number : IsNumber k
   pub found : slice_get old.sessions (k - 1) ≡ Some before
   pub asking : before.phase ≡ phase.Asking
@@ -41,7 +41,7 @@ pub record IsTurn (old : Scene) (next : World) (k : ℕ) (before after : StageSe
 some-session : (a b : StageSession) → Some a ≡ Some b → a ≡ b
 some-session a b e = cc
 
-turn-moves : (old : Scene) (next : World) (k : ℕ) (before after : StageSession) (m : Mark) (deck : Deck) (describe : Describe) (task : Task) (tasks : List Task) (handed : List ℕ) →
+turn-moves : (old : Scene) (next : WorldState) (k : ℕ) (before after : StageSession) (m : Mark) (deck : Deck) (describe : Describe) (task : Task) (tasks : List Task) (handed : List ℕ) →
     IsTurn old next k before after m → (at : StandsAt old deck describe (task ∷ tasks) handed) →
     ((b : Bool) → is_pending (posted_run at.posted at.s k) ≡ b → task_who at.posted at.s task ≡ session_if b k) →
     Plays AtWork (moved old next k after m) deck describe (task_rest task ++ tasks) handed
@@ -59,7 +59,7 @@ turn-moves old next k before after m deck describe task tasks handed turn at ask
     (turn.taken.follows (posted_to at.posted k) (heard_by at.s k) (handed_of handed k) stands)
 
 -- the pending command takes a step, to be run out or for an event
-pub takes-turn : (old : Scene) (next : World) (k : ℕ) (before after : StageSession) (m : Mark) → IsTurn old next k before after m →
+pub takes-turn : (old : Scene) (next : WorldState) (k : ℕ) (before after : StageSession) (m : Mark) → IsTurn old next k before after m →
     TakesTurn old (moved old next k after m) k
 takes-turn old next k before after m turn = (
   λ deck describe tasks handed at. turn-moves old next k before after m deck describe (RunOut k) tasks handed turn at (λ b e. ap (λ x. session_if x k) e),
@@ -67,7 +67,7 @@ takes-turn old next k before after m turn = (
 )
 
 -- the same of the scene that came of it
-pub turn_taken : (old new : Scene) (next : World) (k place : ℕ) (before after : StageSession) (m : Mark) → place ≡ k - 1 → IsTurn old next k before after m →
+pub turn_taken : (old new : Scene) (next : WorldState) (k place : ℕ) (before after : StageSession) (m : Mark) → place ≡ k - 1 → IsTurn old next k before after m →
     new ≡ record { world = next; sessions = set old.sessions place after; schedule = old.schedule ++ record { who = who.Session k; mark = m } ∷ [] } → TakesTurn old new k
 turn_taken old new next k place before after m e turn is =
     subst (λ x. TakesTurn old x k)
@@ -75,12 +75,12 @@ turn_taken old new next k place before after m e turn is =
     (takes-turn old next k before after m turn)
 
 -- A session has made an exit step.
-pub record IsExit (old : Scene) (next : World) (k : ℕ) (before after : StageSession) (m : Mark) : Type 0 where
+pub record IsExit (old : Scene) (next : WorldState) (k : ℕ) (before after : StageSession) (m : Mark) : Type 0 where
   pub number : IsNumber k
   pub found : slice_get old.sessions (k - 1) ≡ Some before
   pub taken : TakesExit before after old.world next k m
 
-pub exit-moves : (old : Scene) (next : World) (k : ℕ) (before after : StageSession) (m : Mark) (deck : Deck) (describe : Describe) (tasks : List Task) (handed : List ℕ) →
+pub exit-moves : (old : Scene) (next : WorldState) (k : ℕ) (before after : StageSession) (m : Mark) (deck : Deck) (describe : Describe) (tasks : List Task) (handed : List ℕ) →
     IsExit old next k before after m → LeavesAt old deck describe (Leaves k ∷ tasks) handed →
     LeavesAt (moved old next k after m) deck describe (Leaves k ∷ tasks) handed
 exit-moves old next k before after m deck describe tasks handed exit at =
@@ -115,7 +115,7 @@ work-apart deck s posted (who.Reclaim row) asked outcome e = record { turn = ref
 work-apart deck s posted who.End asked outcome e = absurd e
 
 -- the worker takes a step for an event
-pub work-moves : (old : Scene) (next : World) (asker : Who) (asked : Step) (m : Mark) (reply : Reply) (deck : Deck) (describe : Describe) (tasks : List Task) (handed : List ℕ) →
+pub work-moves : (old : Scene) (next : WorldState) (asker : Who) (asked : Step) (m : Mark) (reply : Reply) (deck : Deck) (describe : Describe) (tasks : List Task) (handed : List ℕ) →
     IsWork asker asked → TakesStep old.world next asker asked (reply, m) → StandsAt old deck describe (Steps asker ∷ tasks) handed →
     StandsAt (record { world = next; sessions = old.sessions; schedule = old.schedule ++ record { who = asker; mark = m } ∷ [] }) deck describe tasks handed
 work-moves old next asker asked m reply deck describe tasks handed work takes at =

@@ -7,12 +7,12 @@ use Rattle.vfs_base.specs.declared.entry.Entry.{Entry}
 use Rattle.vfs_base.specs.declared.limits.TheConstants.{SESSIONS}
 use Rattle.vfs_model.specs.ScriptRun.{RunState, opening_state, state_after}
 use Rattle.vfs_model.specs.Turns.{Posts, RunOut, Steps, Leaves, Task, keeps_turns, opening_agenda}
-use Rattle.vfs_model.specs.declared.world.World.{World}
+use Rattle.vfs_model.specs.declared.world.WorldState.{WorldState}
 use Rattle.script_stage.specs.declared.stage_session.StageSession.{StageSession}
 
 -- The world, the sessions by number, and the schedule so far.
 pub record Scene : Type 0 where
-  pub world : World
+  pub world : WorldState
   pub sessions : List StageSession
   pub schedule : List Entry
 

@@ -1,6 +1,6 @@
 ghost use Rattle.std.specs.Prelude.{◌≡◌, IfOk, OnErr};
 ghost use Rattle.vfs_model.specs.StepForms.{MayTake, TellsFolder};
-ghost use Rattle.vfs_model.specs.declared.world.World.{World};
+ghost use Rattle.vfs_model.specs.declared.world.WorldState.{WorldState};
 ghost use Rattle.script_stage.specs.Taking.{TakesStep};
 
 use std::alloc::Global;
@@ -9,7 +9,7 @@ use vfs_base::{Mark, NoMemory, Reply, Step, Who};
 /// A world that takes steps.
 pub trait StepWorld: Drop {
     // The world of the definitions that it stands for.
-    ghost world: { Self → World };
+    ghost world: { Self → WorldState };
 
     /// Takes a step, and answers the reply and the mark under which it came.
     ///

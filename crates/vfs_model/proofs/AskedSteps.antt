@@ -10,10 +10,10 @@ use Rattle.vfs_model.specs.Asking.{Asked, run_steps}
 use Rattle.vfs_model.specs.ScriptRun.{RunState, entry_step, opening_state, state_after, state_after_step, take_entries, take_entry, take_step}
 use Rattle.vfs_model.specs.Tally.{asked_before, asked_from, asked_of, entry_asked}
 use Rattle.vfs_model.specs.World.{fits_step, world_step}
-use Rattle.vfs_model.specs.declared.world.World.{World}
+use Rattle.vfs_model.specs.declared.world.WorldState.{WorldState}
 
 -- the steps of a front of a schedule, and the world that they lead to
-pub record StepsLead (deck : Deck) (s : RunState) (entries : List Entry) (w : World) : Type 0 where
+pub record StepsLead (deck : Deck) (s : RunState) (entries : List Entry) (w : WorldState) : Type 0 where
   pub steps : List Asked
   pub asked : asked_from deck s entries ≡ Some steps
   pub leads : (run_steps s.world steps).next ≡ w

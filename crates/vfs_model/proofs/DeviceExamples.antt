@@ -17,7 +17,7 @@ use Rattle.vfs_model.specs.Homes.{opening_world, with_cell_bytes}
 use Rattle.vfs_model.specs.declared.namespace.RomImage.{RomImage}
 use Rattle.vfs_model.specs.declared.namespace.RomNode.TheVariants as rom
 use Rattle.vfs_model.specs.declared.world.DeviceHome.{DeviceHome}
-use Rattle.vfs_model.specs.declared.world.World.{World}
+use Rattle.vfs_model.specs.declared.world.WorldState.{WorldState}
 
 -- the rom `boot`: a folder with two files
 abbrev pub boot : RomImage
@@ -276,7 +276,7 @@ want_of_memory_moves_no_byte = refl
 
 -- bytes that lie on a cell at home are no file's: a file that is made there begins with nothing
 pub a_new_file_begins_with_nothing : (
-    let start : World = opening_world [] (sd0 (4 ∷ [])) in
+    let start : WorldState = opening_world [] (sd0 (4 ∷ [])) in
     (run_steps (record start { homes = with_cell_bytes start.homes 0 0 (codes "abc") }) (on_volume (
     asks 1 (step.Open (codes "/v/f") rw_creat)
     ∷ asks 1 (step.Size (id 1 1))

@@ -102,10 +102,10 @@ module _ (roms : List RomImage) (describe : Describe) where
     alone = λ number other p q id same kind like h k e. let none = no-node number p in absurd (cc);
   }
 
-  folders-stand : FoldersStand (opening_namespace roms describe)
+  working_directories-stand : FoldersStand (opening_namespace roms describe)
   unfolding opening_namespace node_at covering_mount
-  folders-stand = record {
-    folders = λ k. ap (is_folder (opening_namespace roms describe)) (at-root k);
+  working_directories-stand = record {
+    working_directories = λ k. ap (is_folder (opening_namespace roms describe)) (at-root k);
     short = λ k. rw (at-root k) (omega arith);
     root = (refl, refl, refl);
     points = λ place d l. absurd (omega arith);
@@ -129,8 +129,8 @@ module _ (roms : List RomImage) (describe : Describe) where
     named = λ volume. inl (opened-keeps describe.volumes volume);
   }
 
-  lives-fit : LivesFit (opening_namespace roms describe)
-  lives-fit row life h = let none = no-life row in absurd (cc)
+  live_files-fit : LivesFit (opening_namespace roms describe)
+  live_files-fit row life h = let none = no-life row in absurd (cc)
 
   cells-fit : CellsFit (opening_world roms describe)
   unfolding opening_namespace opening_world
@@ -141,7 +141,7 @@ module _ (roms : List RomImage) (describe : Describe) where
 
   sizes : HasSizes (opening_world roms describe)
   unfolding opening_namespace opening_world
-  sizes = record { files = refl; lives = refl; generations = refl; trees = refl; folders = refl; mounts = omega arith }
+  sizes = record { files = refl; live_files = refl; generations = refl; trees = refl; working_directories = refl; mounts = omega arith }
 
   pub opening-consistent : RomsClosed roms → IsConsistent (opening_world roms describe)
   unfolding opening_world opening_namespace
@@ -150,10 +150,10 @@ module _ (roms : List RomImage) (describe : Describe) where
     references_live = references-live;
     rows_used = rows-used;
     references_bounded = refl;
-    folders_stand = folders-stand;
+    folders_stand = working_directories-stand;
     trees_closed = λ number. subst (IsClosedTree is_dir_node) (sym (no-tree number)) (empty-closed is_dir_node);
     boxes_placed = boxes-placed;
-    lives_fit = lives-fit;
+    live_files_fit = live_files-fit;
     cells_fit = cells-fit;
     roms_closed = closed;
     sizes = sizes;

@@ -25,7 +25,7 @@ use Rattle.vfs_model.specs.declared.cache.DeviceCall.{DeviceCall}
 use Rattle.vfs_model.specs.declared.cache.DeviceCall.TheVariants as call
 use Rattle.vfs_model.specs.declared.cache.Resident.{Resident}
 use Rattle.vfs_model.specs.declared.world.FileState.{FileState}
-use Rattle.vfs_model.specs.declared.world.World.{World}
+use Rattle.vfs_model.specs.declared.world.WorldState.{WorldState}
 
 -- how many pass a test, over what lists are made of
 
@@ -354,7 +354,7 @@ none-dirty run = all-clean run.next.resident
     all-clean [] = refl
     all-clean (slot ∷ slots) = all-clean slots
 
-pub calls-add-up : (w : World) (io : IoState) (first second : List Asked) →
+pub calls-add-up : (w : WorldState) (io : IoState) (first second : List Asked) →
     io_steps w io (first ++ second) ≡ io_steps (run_steps w first).next (io_steps w io first) second
 calls-add-up w io [] second = refl
 calls-add-up w io (asked ∷ later) second = calls-add-up (world_step w asked.who asked.step asked.mark).next (io_step w io asked) later second

@@ -23,9 +23,9 @@ use Rattle.vfs_model.specs.TranscriptLaws.{IsWholeOrGoesOn}
 use Rattle.vfs_model.specs.Turns.{Agenda, FollowsScript, Leaves, Posts, RunOut, Steps, Task, Turn, act_tasks, follows_script, keeps_turns, next_turn, opening_agenda, same_who}
 use Rattle.vfs_model.specs.World.{fits_on, fits_step, session_of, step_row, world_step}
 use Rattle.vfs_model.specs.declared.script_form.ScriptForm.TheVariants as form
-use Rattle.vfs_model.specs.declared.world.World.{World}
+use Rattle.vfs_model.specs.declared.world.WorldState.{WorldState}
 
-clear-fits : (w : World) (asker : Who) (asked : Step) → fits_step w asker asked mark.Clear ≡ true
+clear-fits : (w : WorldState) (asker : Who) (asked : Step) → fits_step w asker asked mark.Clear ≡ true
 unfolding fits_step fits_file
 clear-fits w asker asked = by_row (step_row asked)
   where

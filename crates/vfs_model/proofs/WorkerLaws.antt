@@ -14,7 +14,7 @@ use Rattle.vfs_model.specs.Homes.{file_at}
 use Rattle.vfs_model.specs.World.{world_step}
 use Rattle.vfs_model.specs.declared.world.FileState.{FileState}
 use Rattle.vfs_model.specs.declared.world.FileState.TheVariants as file
-use Rattle.vfs_model.specs.declared.world.World.{World}
+use Rattle.vfs_model.specs.declared.world.WorldState.{WorldState}
 
 either_next : (b : Bool) (x y : FileOutcome) (f : FileState) → x.next ≡ f → y.next ≡ f → (if b then x else y).next ≡ f
 either_next true x y f h k = h
@@ -49,10 +49,10 @@ reclaim-stays (file.Device generation input output) row mark.Clear = refl
 reclaim-stays f row (mark.Fault count) = stopped-stays f (step.Reclaim row) errno.EIO count (reclaim-moves f row count)
 reclaim-stays f row (mark.NoMem count) = stopped-stays f (step.Reclaim row) errno.ENOMEM count (reclaim-moves f row count)
 
-pub flush-leaves : (w : World) (asker : Who) (row : ℕ) (m : Mark) → (world_step w asker (step.Flush row) m).next ≡ w
+pub flush-leaves : (w : WorldState) (asker : Who) (row : ℕ) (m : Mark) → (world_step w asker (step.Flush row) m).next ≡ w
 unfolding world_step
 flush-leaves w asker row m = same_file w row _ (flush-stays (file_at w row) row m)
 
-pub reclaim-leaves : (w : World) (asker : Who) (row : ℕ) (m : Mark) → (world_step w asker (step.Reclaim row) m).next ≡ w
+pub reclaim-leaves : (w : WorldState) (asker : Who) (row : ℕ) (m : Mark) → (world_step w asker (step.Reclaim row) m).next ≡ w
 unfolding world_step
 reclaim-leaves w asker row m = same_file w row _ (reclaim-stays (file_at w row) row m)

@@ -20,7 +20,7 @@ use Rattle.vfs_model.specs.Homes.{file_at, with_file}
 use Rattle.vfs_model.specs.World.{after_format, namespace_part, session_of, step_on, step_row, world_step}
 use Rattle.vfs_model.specs.declared.world.FileState.{FileState}
 use Rattle.vfs_model.specs.declared.world.FileState.TheVariants as file
-use Rattle.vfs_model.specs.declared.world.World.{World}
+use Rattle.vfs_model.specs.declared.world.WorldState.{WorldState}
 
 move_bytes-answers : (generation : ℕ) (kind : Kind) (capacity : ℕ) (bytes : List ℕ) (asked : Step) (count : ℕ) →
     is_refusal (move_bytes generation kind capacity bytes asked count).reply ≡ false
@@ -69,26 +69,26 @@ file-leaves f asked (mark.Fault count) = stopped-leaves f asked errno.EIO count
 file-leaves f asked (mark.NoMem count) = stopped-leaves f asked errno.ENOMEM count
 
 -- a file put back where it was
-pub same_file : (w : World) (row : ℕ) (f : FileState) → f ≡ file_at w row → with_file w row f ≡ w
+pub same_file : (w : WorldState) (row : ℕ) (f : FileState) → f ≡ file_at w row → with_file w row f ≡ w
 same_file w row f e =
     ap (λ files. record w { files = files }) (ap (λ x. set w.files (row - 1) x) e ∙ set-get_or w.files (row - 1) (file.Unbound 0))
 
-format-leaves : (w : World) (asked : Step) (answer : Reply) → is_refusal answer ≡ true → after_format w asked answer ≡ w
+format-leaves : (w : WorldState) (asked : Step) (answer : Reply) → is_refusal answer ≡ true → after_format w asked answer ≡ w
 format-leaves w (step.Mkfs name) (reply.Refused errno) h = refl
 format-leaves w (step.Mkfs name) _ h = absurd (cc)
 format-leaves w _ answer h = refl
 
-part-leaves : (w : World) (outcome : NamespaceOutcome) (asked : Step) → is_refusal outcome.reply ≡ true → Unchanged w.namespace outcome →
+part-leaves : (w : WorldState) (outcome : NamespaceOutcome) (asked : Step) → is_refusal outcome.reply ≡ true → Unchanged w.namespace outcome →
     (namespace_part w outcome asked).next ≡ w
 part-leaves w outcome asked h u =
     ap (λ v. after_format v asked outcome.reply) (rw (u.1, u.0) refl) ∙ format-leaves w asked outcome.reply h
 
-step_on-leaves : (w : World) (k : ℕ) (asked : Step) (m : Mark) (row : Option ℕ) → is_shutdown asked ≡ false →
+step_on-leaves : (w : WorldState) (k : ℕ) (asked : Step) (m : Mark) (row : Option ℕ) → is_shutdown asked ≡ false →
     is_refusal (step_on w k asked m row).reply ≡ true → (step_on w k asked m row).next ≡ w
 step_on-leaves w k asked m None h e = part-leaves w (namespace_step w.namespace k asked m) asked e (step-unchanged w.namespace k asked m h e)
 step_on-leaves w k asked m (Some row) h e = same_file w row _ (file-leaves (file_at w row) asked m e)
 
-pub refused-leaves : (w : World) (asker : Who) (asked : Step) (m : Mark) → is_shutdown asked ≡ false →
+pub refused-leaves : (w : WorldState) (asker : Who) (asked : Step) (m : Mark) → is_shutdown asked ≡ false →
     is_refusal (world_step w asker asked m).reply ≡ true → (world_step w asker asked m).next ≡ w
 unfolding world_step
 refused-leaves w asker asked m h e = step_on-leaves w (session_of asker) asked m (step_row asked) h e

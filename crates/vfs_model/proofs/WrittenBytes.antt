@@ -20,7 +20,7 @@ use Rattle.vfs_model.specs.Homes.{file_at}
 use Rattle.vfs_model.specs.World.{session_of, step_on, step_row, world_step}
 use Rattle.vfs_model.specs.declared.world.FileState.{FileState}
 use Rattle.vfs_model.specs.declared.world.FileState.TheVariants as file
-use Rattle.vfs_model.specs.declared.world.World.{World}
+use Rattle.vfs_model.specs.declared.world.WorldState.{WorldState}
 
 cut-length : (len : ℕ) (bytes : List ℕ) → length (cut_or_padded len bytes) ≡ len
 cut-length len bytes =
@@ -95,7 +95,7 @@ writes-piece off byte piece bytes = record {
 
 -- a step of one row
 
-pub changes-one : (w : World) (asker : Who) (asked : Step) (m : Mark) (row : ℕ) → step_row asked ≡ Some row → 0 < row →
+pub changes-one : (w : WorldState) (asker : Who) (asked : Step) (m : Mark) (row : ℕ) → step_row asked ≡ Some row → 0 < row →
     ChangesOneRow row w (world_step w asker asked m).next
 unfolding world_step
 changes-one w asker asked m row e h =

@@ -14,7 +14,7 @@ use Rattle.vfs_model.specs.NamespaceStep.{is_shutdown}
 use Rattle.vfs_model.specs.World.{step_row, world_step}
 use Rattle.vfs_model.specs.declared.namespace.Namespace.{Namespace}
 use Rattle.vfs_model.specs.declared.namespace.Reference.{Reference}
-use Rattle.vfs_model.specs.declared.world.World.{World}
+use Rattle.vfs_model.specs.declared.world.WorldState.{WorldState}
 
 abbrev pub names_file : FileId → Option Reference → Bool
 names_file id None = false
@@ -44,17 +44,17 @@ is_reclaim_of row _ = false
 
 -- no reference is left, and each session is in `/`
 abbrev pub is_at_rest : Namespace → Bool
-is_at_rest n = list_all is_none n.references && list_all (same_path []) n.folders
+is_at_rest n = list_all is_none n.references && list_all (same_path []) n.working_directories
 
 -- A session asks a step of the namespace, the size or the write-back of any file, and another step of a file that
 -- it has a reference to. The worker asks what its name says of its row, and the end asks Shutdown.
-unfoldable pub may_ask : World → Who → Step → Bool
+unfoldable pub may_ask : WorldState → Who → Step → Bool
 may_ask w (who.Session k) asked = may_ask_file w.namespace k asked (step_file asked)
 may_ask w (who.Flush row) asked = is_flush_of row asked
 may_ask w (who.Reclaim row) asked = is_reclaim_of row asked
 may_ask w who.End asked = is_shutdown asked && is_at_rest w.namespace
 
-abbrev pub MayAsk : World → Who → Step → Type 0
+abbrev pub MayAsk : WorldState → Who → Step → Type 0
 MayAsk w asker asked = may_ask w asker asked ≡ true
 
 -- A step that is asked: by whom, which one, and how it comes out.
@@ -66,13 +66,13 @@ pub record Asked : Type 0 where
 -- what a list of steps answers, and the world that it leaves
 pub record RunOutcome : Type 0 where
   pub replies : List Reply
-  pub next : World
+  pub next : WorldState
 
 abbrev pub before_replies : Reply → RunOutcome → RunOutcome
 before_replies reply run = record run { replies = reply ∷ run.replies }
 
 -- the steps one after the other
-abbrev pub run_steps : World → List Asked → RunOutcome
+abbrev pub run_steps : WorldState → List Asked → RunOutcome
 run_steps w [] = record { replies = []; next = w }
 run_steps w (asked ∷ later) =
     let outcome = world_step w asked.who asked.step asked.mark in

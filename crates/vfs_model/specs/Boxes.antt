@@ -22,7 +22,7 @@ use Rattle.vfs_model.specs.declared.namespace.RomNode.{RomNode}
 use Rattle.vfs_model.specs.declared.namespace.RomNode.TheVariants as rom
 use Rattle.vfs_model.specs.declared.world.FileState.{FileState}
 use Rattle.vfs_model.specs.declared.world.FileState.TheVariants as file
-use Rattle.vfs_model.specs.declared.world.World.{World}
+use Rattle.vfs_model.specs.declared.world.WorldState.{WorldState}
 
 abbrev pub lies_on_cell : ℕ → ℕ → Backing → Bool
 lies_on_cell volume cell backing.Memory = false
@@ -53,7 +53,7 @@ one_if test = if test then 1 else 0
 -- how many files have the cell: live ones, and ones that an unmounted volume keeps
 abbrev pub cell_files : Namespace → ℕ → ℕ → ℕ
 cell_files n volume cell =
-    count_by (is_backed_by (lies_on_cell volume cell)) n.lives + count_by (λ entry. is_kept_on cell entry.1) (volume_at n volume).kept
+    count_by (is_backed_by (lies_on_cell volume cell)) n.live_files + count_by (λ entry. is_kept_on cell entry.1) (volume_at n volume).kept
 
 -- what a live file lies on is that of its kind
 abbrev pub fits_kind : Option LiveFile → Bool
@@ -71,7 +71,7 @@ pub record BoxesPlaced (n : Namespace) : Type 0 where
       cell_files n volume cell + one_if (slice_index_or (volume_at n volume).spare cell false) ≡ 1
   pub spares : (volume : ℕ) → length (volume_at n volume).spare ≡ length (volume_at n volume).pages
   pub devices : (device : ℕ) → device < length n.devices →
-      count_by (is_backed_by (lies_on_device device)) n.lives ≡ one_if (slice_index_or n.devices device no_device).is_out
+      count_by (is_backed_by (lies_on_device device)) n.live_files ≡ one_if (slice_index_or n.devices device no_device).is_out
   pub kinds : (row : ℕ) → fits_kind (life_at n row) ≡ true
   pub mounted : (volume : ℕ) → is_mounted n fs.Cell (volume_at n volume).name ≡ true → (volume_at n volume).kept ≡ []
   pub kept : (volume : ℕ) → IsClosedTree is_kept_dir (volume_at n volume).kept
@@ -98,22 +98,22 @@ file_capacity (file.Bytes generation kind capacity bytes) = capacity
 file_capacity (file.Device generation input output) = 0
 
 -- what lies on a cell, by a live file or at home, is no longer than the cell
-pub record CellsFit (w : World) : Type 0 where
+pub record CellsFit (w : WorldState) : Type 0 where
   pub live : (row volume cell : ℕ) → backing_of (life_at w.namespace row) ≡ backing.Cell volume cell →
       file_capacity (file_at w row) ≤ cell_capacity w.namespace volume cell
   pub home : (volume cell : ℕ) → length (cell_bytes w.homes volume cell) ≤ cell_capacity w.namespace volume cell
 
 -- how many places the lists of a world have
-pub record HasSizes (w : World) : Type 0 where
+pub record HasSizes (w : WorldState) : Type 0 where
   pub files : length w.files ≡ 1024
-  pub lives : length w.namespace.lives ≡ 1024
+  pub live_files : length w.namespace.live_files ≡ 1024
   pub generations : length w.namespace.generations ≡ 1024
   pub trees : length w.namespace.trees ≡ 16
-  pub folders : length w.namespace.folders ≡ 8
+  pub working_directories : length w.namespace.working_directories ≡ 8
   pub mounts : length w.namespace.mounts ≤ 15
 
 -- what holds of the world between steps
-pub record IsConsistent (w : World) : Type 0 where
+pub record IsConsistent (w : WorldState) : Type 0 where
   -- each row's file is the live one, and has the row's generation
   pub rows_agree : (row : ℕ) → agrees (life_at w.namespace row) (generation_at w.namespace row) (file_at w row) ≡ true
   pub references_live : ReferencesLive w.namespace
@@ -123,7 +123,7 @@ pub record IsConsistent (w : World) : Type 0 where
   pub folders_stand : FoldersStand w.namespace
   pub trees_closed : (number : ℕ) → IsClosedTree is_dir_node (tree_of w.namespace number)
   pub boxes_placed : BoxesPlaced w.namespace
-  pub lives_fit : LivesFit w.namespace
+  pub live_files_fit : LivesFit w.namespace
   pub cells_fit : CellsFit w
   pub roms_closed : RomsClosed w.namespace.roms
   pub sizes : HasSizes w

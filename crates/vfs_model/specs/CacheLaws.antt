@@ -11,7 +11,7 @@ use Rattle.vfs_model.specs.IoTotals.{IoState, io_steps}
 use Rattle.vfs_model.specs.declared.cache.CacheState.{CacheState}
 use Rattle.vfs_model.specs.declared.cache.Resident.{Resident}
 use Rattle.vfs_model.specs.declared.world.FileState.{FileState}
-use Rattle.vfs_model.specs.declared.world.World.{World}
+use Rattle.vfs_model.specs.declared.world.WorldState.{WorldState}
 
 -- a step of a row that is refused calls no device
 abbrev pub RefusedStepCallsNoDevice : Type 0
@@ -53,5 +53,5 @@ WriteBackLeavesNoneDirty = (run : CacheRun) → list_all (λ slot. not slot.is_d
 
 -- the calls of steps one after the other add up
 abbrev pub CallsAddUp : Type 0
-CallsAddUp = (w : World) (io : IoState) (first second : List Asked) →
+CallsAddUp = (w : WorldState) (io : IoState) (first second : List Asked) →
     io_steps w io (first ++ second) ≡ io_steps (run_steps w first).next (io_steps w io first) second

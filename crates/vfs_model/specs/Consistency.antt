@@ -79,7 +79,7 @@ stands_on_folder n point =
 
 -- each working directory and each point is a folder, mounts have different points and numbers, and `/` lies in memory
 pub record FoldersStand (n : Namespace) : Type 0 where
-  pub folders : (k : ℕ) → is_folder n (folder_of n k) ≡ true
+  pub working_directories : (k : ℕ) → is_folder n (folder_of n k) ≡ true
   pub short : (k : ℕ) → length (printed (folder_of n k)) ≤ 1024
   pub root : (n.root.point ≡ []) × (n.root.number ≡ 0) × (n.root.fs ≡ fs.Tmp)
   pub points : (place : ℕ) (d : Mount) → place < length n.mounts → stands_on_folder n (slice_index_or n.mounts place d).point

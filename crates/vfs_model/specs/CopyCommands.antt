@@ -16,7 +16,7 @@ use Rattle.vfs_model.specs.CommandWords.{flags, same_word, two_words}
 use Rattle.vfs_model.specs.Mappings.{is_chr}
 use Rattle.vfs_model.specs.Talk.{After, Again, Round, Talk, ask, ask_holding, ask_in_turn, shows}
 use Rattle.vfs_model.specs.TextCommands.{cat, echo, to_read}
-use Rattle.vfs_model.specs.OpenFiles.{moved_place}
+use Rattle.vfs_model.specs.OpenFiles.{moved_offset}
 use Rattle.vfs_base.specs.declared.flags.OpenFlags.{OpenFlags}
 
 -- `w,creat`
@@ -73,7 +73,7 @@ copy_read src dst place (reply.Refused errno) = After (copy_fails src dst src.wo
 copy_read src dst place _ = After (shows [])
 
 abbrev pub copy_written : CopyFile → CopyFile → ℕ → List ℕ → Reply → Round CopyStage
-copy_written src dst place bytes (reply.Count n end) = copy_left src dst (moved_place place n) (drop n bytes)
+copy_written src dst place bytes (reply.Count n end) = copy_left src dst (moved_offset place n) (drop n bytes)
 copy_written src dst place bytes (reply.Refused errno) = After (copy_fails src dst dst.word errno)
 copy_written src dst place bytes _ = After (shows [])
 

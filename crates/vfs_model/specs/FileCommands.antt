@@ -15,7 +15,7 @@ use Rattle.vfs_model.specs.CommandWords.{meaning, number_of, offset_of, one_word
 use Rattle.vfs_model.specs.OpenCommands.{close, dup, open_words, with_open_files}
 use Rattle.vfs_model.specs.FolderCommands.{one_step}
 use Rattle.vfs_model.specs.Mappings.{is_chr}
-use Rattle.vfs_model.specs.OpenFiles.{moved_place, open_file, seek, set_place}
+use Rattle.vfs_model.specs.OpenFiles.{moved_offset, open_file, seek, set_place}
 use Rattle.vfs_model.specs.Talk.{Talk, ask, changing, checked, shows}
 use Rattle.vfs_model.specs.declared.shell_state.OpenFile.{OpenFile}
 use Rattle.vfs_model.specs.declared.shell_state.OpenFiles.{OpenFiles}
@@ -47,7 +47,7 @@ read_checks open_files fd n = do
 -- the place moves by what came
 abbrev pub read_replied : List ℕ → ℕ → OpenFile → Reply → Talk
 read_replied word fd file (reply.Got bytes) =
-    changing (with_place fd file.kind (moved_place file.place (length bytes))) (shows (bytes_line bytes))
+    changing (with_place fd file.kind (moved_offset file.place (length bytes))) (shows (bytes_line bytes))
 read_replied word fd file (reply.Refused errno) = fails (codes "read") word errno
 read_replied word fd file _ = shows []
 

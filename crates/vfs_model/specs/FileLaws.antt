@@ -12,7 +12,7 @@ use Rattle.vfs_model.specs.FileStep.{written_at}
 use Rattle.vfs_model.specs.Homes.{file_at}
 use Rattle.vfs_model.specs.World.{step_row, world_step}
 use Rattle.vfs_model.specs.declared.world.FileState.{FileState}
-use Rattle.vfs_model.specs.declared.world.World.{World}
+use Rattle.vfs_model.specs.declared.world.WorldState.{WorldState}
 
 -- what a write leaves: its piece at its offset, zeros in a gap before it, and all other bytes as before
 pub record WritesPiece (off : ℕ) (piece bytes written : List ℕ) : Type 0 where
@@ -31,12 +31,12 @@ WrittenIsRead = (f : FileState) (id : FileId) (off : ℕ) (piece : List ℕ) →
     (file_step (file_step f (step.Write id off piece) mark.Clear).next (step.Read id off (length piece)) mark.Clear).reply ≡ reply.Got piece
 
 -- what a step of one row leaves of all else
-pub record ChangesOneRow (row : ℕ) (w v : World) : Type 0 where
+pub record ChangesOneRow (row : ℕ) (w v : WorldState) : Type 0 where
   pub namespace : v.namespace ≡ w.namespace
   pub homes : v.homes ≡ w.homes
   pub files : (other : ℕ) → 0 < other → other ≢ row → file_at v other ≡ file_at w other
 
 -- a step of one file changes no other
 abbrev pub StepChangesOneFile : Type 0
-StepChangesOneFile = (w : World) (asker : Who) (asked : Step) (m : Mark) (row : ℕ) → step_row asked ≡ Some row → 0 < row →
+StepChangesOneFile = (w : WorldState) (asker : Who) (asked : Step) (m : Mark) (row : ℕ) → step_row asked ≡ Some row → 0 < row →
     ChangesOneRow row w (world_step w asker asked m).next

@@ -30,7 +30,7 @@ is_free_row life generation = is_none life && nat_lt generation 1844674407370955
 
 -- for each row, whether it is free
 abbrev pub free_rows : Namespace → List Bool
-free_rows n = map (λ row. is_free_row row.0 row.1) (zip n.lives n.generations)
+free_rows n = map (λ row. is_free_row row.0 row.1) (zip n.live_files n.generations)
 
 -- the least free row, or 1025 where none is free
 abbrev pub least_free_row : Namespace → ℕ
@@ -80,7 +80,7 @@ next_file n row = record { row = row; generation = generation_at n row + 1 }
 unfoldable pub bind_row : Namespace → ℕ → LiveFile → Namespace
 bind_row n row life =
     after_taking (record n {
-      lives = slice_set n.lives (row - 1) (Some life);
+      live_files = slice_set n.live_files (row - 1) (Some life);
       generations = slice_set n.generations (row - 1) (generation_at n row + 1);
     }) life.backing
 
@@ -113,7 +113,7 @@ free_row ending rows row =
     let n = rows.next in
     let end = ending (backing_of (life_at n row)) in
     record {
-      next = after_end (record n { lives = slice_set n.lives (row - 1) None }) end;
+      next = after_end (record n { live_files = slice_set n.live_files (row - 1) None }) end;
       changes = rows.changes ++ change.Free (file_of n row) end ∷ [];
     }
 

@@ -27,7 +27,7 @@ reference_paths n (Some reference) = paths_of_row n reference.file.row
 
 -- the path of each holder: a reference to the file that stands there, a session's working directory, or a mount
 abbrev pub holder_paths : Namespace → List Path
-holder_paths n = flat_map (reference_paths n) n.references ++ n.folders ++ map (λ mount. mount.point) (all_mounts n)
+holder_paths n = flat_map (reference_paths n) n.references ++ n.working_directories ++ map (λ mount. mount.point) (all_mounts n)
 
 -- the row of a reference whose file has no name any more
 abbrev pub nameless_row : Namespace → Option Reference → List ℕ

@@ -24,7 +24,7 @@ use Rattle.vfs_model.specs.declared.world.DeviceHome.{DeviceHome}
 use Rattle.vfs_model.specs.declared.world.FileState.{FileState}
 use Rattle.vfs_model.specs.declared.world.FileState.TheVariants as file
 use Rattle.vfs_model.specs.declared.world.Homes.{Homes}
-use Rattle.vfs_model.specs.declared.world.World.{World}
+use Rattle.vfs_model.specs.declared.world.WorldState.{WorldState}
 
 -- a character device at home, with its input; a device that does not tell it counts as one without
 abbrev pub opening_home : CharsShape → DeviceHome
@@ -35,7 +35,7 @@ abbrev pub empty_cells : VolumeShape → List (List ℕ)
 empty_cells shape = replicate (length shape.pages) []
 
 -- the world at the start
-unfoldable pub opening_world : List RomImage → Describe → World
+unfoldable pub opening_world : List RomImage → Describe → WorldState
 opening_world roms describe = record {
   namespace = opening_namespace roms describe;
   files = replicate ROWS (file.Unbound 0);
@@ -43,10 +43,10 @@ opening_world roms describe = record {
 }
 
 -- the file of a row
-abbrev pub file_at : World → ℕ → FileState
+abbrev pub file_at : WorldState → ℕ → FileState
 file_at w row = slice_index_or w.files (row - 1) (file.Unbound 0)
 
-abbrev pub with_file : World → ℕ → FileState → World
+abbrev pub with_file : WorldState → ℕ → FileState → WorldState
 with_file w row f = record w { files = slice_set w.files (row - 1) f }
 
 -- the bytes that lie at home on a cell
@@ -80,7 +80,7 @@ abbrev pub cell_capacity : Namespace → ℕ → ℕ → ℕ
 cell_capacity n volume cell = PAGE_SIZE * slice_index_or (volume_at n volume).pages cell 0
 
 -- the file that a row becomes
-abbrev pub bound_file : World → ℕ → Origin → FileState
+abbrev pub bound_file : WorldState → ℕ → Origin → FileState
 bound_file w generation origin.Empty = file.Bytes generation kind.Tmp TMP_FILE_MAX []
 bound_file w generation (origin.Rom place path) =
     let bytes = rom_bytes w.namespace place path in
@@ -118,7 +118,7 @@ homes_after_end homes f (end.Kept volume cell) = with_cell_bytes homes volume ce
 homes_after_end homes f (end.Device device) = with_device_home homes device (home_of f)
 
 -- one change of a row
-abbrev pub change_row : World → RowChange → World
+abbrev pub change_row : WorldState → RowChange → WorldState
 change_row w (change.Bind bound begins) =
     record (with_file w bound.row (bound_file w bound.generation begins)) { homes = homes_after_bind w.homes begins }
 change_row w (change.Free freed ending) =

@@ -24,7 +24,7 @@ use Rattle.vfs_model.specs.declared.namespace.Origin.TheVariants as origin
 use Rattle.vfs_model.specs.declared.namespace.RomImage.{RomImage}
 use Rattle.vfs_model.specs.declared.namespace.RowChange.{RowChange}
 use Rattle.vfs_model.specs.declared.namespace.RowChange.TheVariants as change
-use Rattle.vfs_model.specs.declared.world.World.{World}
+use Rattle.vfs_model.specs.declared.world.WorldState.{WorldState}
 
 -- how often a volume's devices were called
 pub record IoTotal : Type 0 where
@@ -84,7 +84,7 @@ abbrev pub after_run : IoState → ℕ → ℕ → CacheRun → IoState
 after_run io row volume run = count_calls (with_cache io row run.next) volume run.calls
 
 -- a step of a row whose file lies on a cell
-abbrev pub io_row : World → IoState → ℕ → Step → Backing → IoState
+abbrev pub io_row : WorldState → IoState → ℕ → Step → Backing → IoState
 io_row w io row asked (backing.Cell volume cell) = after_run io row volume (row_run (file_at w row) (cache_at io row) asked)
 io_row w io row asked backing.Memory = io
 io_row w io row asked (backing.Device device) = io
@@ -112,24 +112,24 @@ io_change io (change.Bind bound begins) = io_bind io bound.row begins
 io_change io (change.Free freed ending) = io_free io freed.row ending
 
 -- a formatted volume has no stored pages
-abbrev pub io_format : World → IoState → Step → Reply → IoState
+abbrev pub io_format : WorldState → IoState → Step → Reply → IoState
 io_format w io (step.Mkfs name) answer =
     let volume = volume_named w.namespace name in
     let emptied : List (List ℕ) = map (λ pages. []) (slice_index_or io.stored volume []) in
     if is_done answer then record io { stored = slice_set io.stored volume emptied } else io
 io_format w io _ answer = io
 
-abbrev pub io_on : World → IoState → Asked → Option ℕ → IoState
+abbrev pub io_on : WorldState → IoState → Asked → Option ℕ → IoState
 io_on w io asked (Some row) = io_row w io row asked.step (backing_of (life_at w.namespace row))
 io_on w io asked None =
     let outcome = namespace_step w.namespace (session_of asked.who) asked.step asked.mark in
     io_format w (fold io_change io outcome.changes) asked.step outcome.reply
 
 -- one step, from the world before it on
-abbrev pub io_step : World → IoState → Asked → IoState
+abbrev pub io_step : WorldState → IoState → Asked → IoState
 io_step w io asked = io_on w io asked (step_row asked.step)
 
-abbrev pub io_steps : World → IoState → List Asked → IoState
+abbrev pub io_steps : WorldState → IoState → List Asked → IoState
 io_steps w io [] = io
 io_steps w io (asked ∷ later) = io_steps (world_step w asked.who asked.step asked.mark).next (io_step w io asked) later
 

@@ -21,7 +21,7 @@ use Rattle.vfs_model.specs.RenameStep.{moved, with_moved}
 use Rattle.vfs_model.specs.World.{world_step}
 use Rattle.vfs_model.specs.declared.namespace.Mount.{Mount}
 use Rattle.vfs_model.specs.declared.namespace.Namespace.{Namespace}
-use Rattle.vfs_model.specs.declared.world.World.{World}
+use Rattle.vfs_model.specs.declared.world.WorldState.{WorldState}
 
 -- a step of the namespace that is refused leaves it as it was, and changes no row
 abbrev pub RefusedStepChangesNothing : Type 0
@@ -31,12 +31,12 @@ RefusedStepChangesNothing = (n : Namespace) (k : ℕ) (asked : Step) (m : Mark) 
 
 -- a step that is refused leaves the world as it was
 abbrev pub RefusedWorldStaysSame : Type 0
-RefusedWorldStaysSame = (w : World) (asker : Who) (asked : Step) (m : Mark) (errno : Errno) → is_shutdown asked ≡ false →
+RefusedWorldStaysSame = (w : WorldState) (asker : Who) (asked : Step) (m : Mark) (errno : Errno) → is_shutdown asked ≡ false →
     (world_step w asker asked m).reply ≡ reply.Refused errno → (world_step w asker asked m).next ≡ w
 
 -- the worker changes nothing that a caller sees
 abbrev pub WorkerChangesNothing : Type 0
-WorkerChangesNothing = (w : World) (asker : Who) (row : ℕ) (m : Mark) →
+WorkerChangesNothing = (w : WorldState) (asker : Who) (row : ℕ) (m : Mark) →
     ((world_step w asker (step.Flush row) m).next ≡ w) × ((world_step w asker (step.Reclaim row) m).next ≡ w)
 
 -- The covering mount is the one with the longest point that is a prefix of the path. `/` is one, so there is one.

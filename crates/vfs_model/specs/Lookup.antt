@@ -97,11 +97,11 @@ has_mount_below n path = list_any (λ mount. is_below path mount.point) (all_mou
 
 -- a session's working directory is the path
 abbrev pub is_working_directory : Namespace → Path → Bool
-is_working_directory n path = list_any (same_path path) n.folders
+is_working_directory n path = list_any (same_path path) n.working_directories
 
 -- a session's working directory is the path or lies below it
 abbrev pub has_folder_within : Namespace → Path → Bool
-has_folder_within n path = list_any (is_prefix path) n.folders
+has_folder_within n path = list_any (is_prefix path) n.working_directories
 
 -- rom and devfs are read-only types
 abbrev pub is_read_only_type : FsType → Bool

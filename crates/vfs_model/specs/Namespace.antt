@@ -40,7 +40,7 @@ tree_of n number = slice_index_or n.trees number []
 
 -- the live file of a row; rows are counted from 1
 abbrev pub life_at : Namespace → ℕ → Option LiveFile
-life_at n row = slice_index_or n.lives (row - 1) None
+life_at n row = slice_index_or n.live_files (row - 1) None
 
 -- the generation of a row
 abbrev pub generation_at : Namespace → ℕ → ℕ
@@ -52,11 +52,11 @@ file_of n row = record { row = row; generation = generation_at n row }
 
 -- the working directory of a session; sessions are counted from 1
 abbrev pub folder_of : Namespace → ℕ → Path
-folder_of n k = slice_index_or n.folders (k - 1) []
+folder_of n k = slice_index_or n.working_directories (k - 1) []
 
 -- the working directory of a session is the path
 abbrev pub with_folder_of : Namespace → ℕ → Path → Namespace
-with_folder_of n k path = record n { folders = slice_set n.folders (k - 1) path }
+with_folder_of n k path = record n { working_directories = slice_set n.working_directories (k - 1) path }
 
 -- the references of a session by number, from 1 to 32
 abbrev pub references_of : Namespace → ℕ → List (Option Reference)
@@ -83,10 +83,10 @@ opening_namespace roms describe = record {
   root = root_mount;
   mounts = [];
   trees = replicate MOUNTS [];
-  lives = replicate ROWS None;
+  live_files = replicate ROWS None;
   generations = replicate ROWS 0;
   references = replicate (SESSIONS * HOLDS) None;
-  folders = replicate SESSIONS [];
+  working_directories = replicate SESSIONS [];
   volumes = map opening_volume describe.volumes;
   roms = roms;
   devices = map opening_device describe.chars;

@@ -16,8 +16,8 @@ abbrev pub place_max : ℕ
 place_max = 2 ^ 63 + 2 ^ 20
 
 -- a place, so many bytes on
-abbrev pub moved_place : ℕ → ℕ → ℕ
-moved_place place count = min (place + count) place_max
+abbrev pub moved_offset : ℕ → ℕ → ℕ
+moved_offset place count = min (place + count) place_max
 
 -- no descriptor is used
 abbrev pub opening_files : OpenFiles
@@ -96,14 +96,14 @@ set_place open_files fd place = do
   Ok (at_place open_files number place file)
 
 -- where an offset is counted from
-abbrev pub whence_place : OpenFile → Whence → ℕ
-whence_place file whence.Set = 0
-whence_place file whence.Cur = file.place
-whence_place file (whence.End size) = size
+abbrev pub whence_offset : OpenFile → Whence → ℕ
+whence_offset file whence.Set = 0
+whence_offset file whence.Cur = file.place
+whence_offset file (whence.End size) = size
 
 -- the place at an offset from another one
-abbrev pub sought_place : ℕ → ℤ → Result ℕ Errno
-sought_place from off = do
+abbrev pub sought_offset : ℕ → ℤ → Result ℕ Errno
+sought_offset from off = do
   refuse errno.EINVAL when int_lt (pos from +ℤ off) (pos 0)
   refuse errno.EOVERFLOW when int_lt (pos OFF_MAX) (pos from +ℤ off)
   Ok (nat_abs (pos from +ℤ off))
@@ -117,7 +117,7 @@ pub record Sought : Type 0 where
 unfoldable pub seek : OpenFiles → ℕ → ℤ → Whence → Result Sought Errno
 seek open_files fd off whence = do
   file ← open_file open_files fd
-  place ← sought_place (whence_place file whence) off
+  place ← sought_offset (whence_offset file whence) off
   moved ← set_place open_files fd place
   Ok (record { place = place; open_files = moved })
 

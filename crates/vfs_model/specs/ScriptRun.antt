@@ -22,7 +22,7 @@ use Rattle.vfs_model.specs.World.{WorldOutcome, fits_step, world_step}
 use Rattle.vfs_model.specs.declared.namespace.RomImage.{RomImage}
 use Rattle.vfs_model.specs.declared.namespace.RomNode.{RomNode}
 use Rattle.vfs_model.specs.declared.namespace.RomNode.TheVariants as rom
-use Rattle.vfs_model.specs.declared.world.World.{World}
+use Rattle.vfs_model.specs.declared.world.WorldState.{WorldState}
 
 -- what a rom has at a path: a folder has no bytes
 abbrev pub rom_node : Option (List ℕ) → RomNode
@@ -46,7 +46,7 @@ has_untold describe = list_any (λ shape. is_none shape.input) describe.chars
 
 -- Where a script stands after a front of a schedule.
 pub record RunState : Type 0 where
-  pub world : World
+  pub world : WorldState
   -- what each session was replied so far, from the first one on
   pub heard : List (List Reply)
   -- the end was taken

@@ -12,7 +12,7 @@ use Rattle.vfs_base.specs.declared.step.Step.TheVariants as step
 use Rattle.vfs_model.specs.CommandText.{fails, fails_after, line, usage, with_error}
 use Rattle.vfs_model.specs.CommandWords.{flags}
 use Rattle.vfs_model.specs.Mappings.{is_chr}
-use Rattle.vfs_model.specs.OpenFiles.{moved_place}
+use Rattle.vfs_model.specs.OpenFiles.{moved_offset}
 use Rattle.vfs_model.specs.Talk.{After, Again, Round, Talk, ask, ask_holding, ask_in_turn, shows}
 
 abbrev pub is_nothing : List ℕ → Bool
@@ -51,7 +51,7 @@ abbrev pub cat_got : List ℕ → HoldId → Kind → (List ℕ → Talk) → Ca
 cat_got word hold kind go stage bytes =
     if is_read_out kind bytes
     then After (closes (codes "cat") word hold (stage.text ++ bytes) go)
-    else Again (record { place = moved_place stage.place (length bytes); text = stage.text ++ bytes })
+    else Again (record { place = moved_offset stage.place (length bytes); text = stage.text ++ bytes })
 
 abbrev pub cat_round : List ℕ → HoldId → Kind → (List ℕ → Talk) → CatStage → Reply → Round CatStage
 cat_round word hold kind go stage (reply.Got bytes) = cat_got word hold kind go stage bytes

@@ -36,7 +36,7 @@ unfoldable pub is_busy : Namespace → Mount → Bool
 is_busy n mount =
     has_mount_below n mount.point
     || list_any (refers_to_mount mount.number) n.references
-    || list_any (λ folder. (covering_mount n folder).number == mount.number) n.folders
+    || list_any (λ folder. (covering_mount n folder).number == mount.number) n.working_directories
 
 -- the mount with this point
 abbrev pub mount_at_point : Namespace → Path → Option Mount
@@ -49,7 +49,7 @@ is_of_mount number (Some life) = life.mount == number
 
 -- the rows of a mount's files, in their order
 abbrev pub rows_of_mount : Namespace → ℕ → List ℕ
-rows_of_mount n number = map (λ row. row.0) (filter (λ row. is_of_mount number row.1) (enumerate_from 1 n.lives))
+rows_of_mount n number = map (λ row. row.0) (filter (λ row. is_of_mount number row.1) (enumerate_from 1 n.live_files))
 
 abbrev pub cell_of : Backing → KeptNode
 cell_of backing.Memory = kept.Dir

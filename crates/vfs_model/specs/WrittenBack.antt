@@ -10,7 +10,7 @@ use Rattle.vfs_model.specs.Homes.{cell_bytes, device_home}
 use Rattle.vfs_model.specs.declared.namespace.KeptNode.{KeptNode}
 use Rattle.vfs_model.specs.declared.namespace.KeptNode.TheVariants as kept
 use Rattle.vfs_model.specs.declared.world.DeviceHome.{DeviceHome}
-use Rattle.vfs_model.specs.declared.world.World.{World}
+use Rattle.vfs_model.specs.declared.world.WorldState.{WorldState}
 
 -- A volume's device side: what its record has at each path, and the pages of each cell whose device tells them.
 pub record VolumeContents : Type 0 where
@@ -53,7 +53,7 @@ NodeWritten bytes_at cells (Some kept.Dir) found = found ≡ Some recorded.Dir
 NodeWritten bytes_at cells (Some (kept.File cell)) found = FileWritten (bytes_at cell) cell found (slice_index_or cells cell None)
 
 -- what an unmounted volume keeps at a path is in its record and on its cells; while a mount has the volume, nothing is
-abbrev pub IsPathWritten : World → Contents → ℕ → Path → Type 0
+abbrev pub IsPathWritten : WorldState → Contents → ℕ → Path → Type 0
 IsPathWritten w now volume path =
     NodeWritten (cell_bytes w.homes volume) (slice_index_or now.volumes volume no_contents).cells
     (value_at path_cmp path (volume_at w.namespace volume).kept)
@@ -66,7 +66,7 @@ pub record DeviceWritten (home before now : DeviceHome) : Type 0 where
 
 -- Each volume's record has the volume's folders and files, with the files' sizes and bytes, and each character device has what
 -- the world left of it, as far as devices tell.
-pub record IsWrittenBack (w : World) (before now : Contents) : Type 0 where
+pub record IsWrittenBack (w : WorldState) (before now : Contents) : Type 0 where
   pub files : (volume : ℕ) (path : Path) → volume < length w.namespace.volumes → IsPathWritten w now volume path
   pub devices : (device : ℕ) → device < length w.homes.devices →
       IfSome (slice_index_or before.devices device None) (λ first.

@@ -18,4 +18,4 @@ pub use namespace::{
 };
 pub use script_form::ScriptForm;
 pub use shell_state::{Next, OpenFile, OpenFiles, ShellState, Whence, Window};
-pub use world::{DeviceHome, FileState, Homes, World};
+pub use world::{DeviceHome, FileState, Homes, WorldState};

@@ -110,13 +110,13 @@ pub struct Namespace {
     /// The tree of each mount, by number; no nodes where no mount has the number.
     pub trees: List<Tree>,
     /// The live file of each row, from the first row on.
-    pub lives: List<Option<LiveFile>>,
+    pub live_files: List<Option<LiveFile>>,
     /// The generation of each row, from the first row on: that of its live file, or of its last one.
     pub generations: List<u64>,
     /// The references: for each session, from 1 on, a place for each number from 1 to 32.
     pub references: List<Option<Reference>>,
     /// The working directory of each session, from 1 on.
-    pub folders: List<Path>,
+    pub working_directories: List<Path>,
     pub volumes: List<VolumeState>,
     pub roms: List<RomImage>,
     pub devices: List<DeviceState>,

@@ -43,7 +43,7 @@ pub struct Homes {
 
 /// The plain world.
 #[derive(Debug, Drop)]
-pub struct World {
+pub struct WorldState {
     pub namespace: Namespace,
     /// The file of each row, from the first row on.
     pub files: List<FileState>,

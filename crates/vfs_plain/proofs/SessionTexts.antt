@@ -14,7 +14,7 @@ use Rattle.vfs_model.specs.Schedule.{schedule_line}
 use Rattle.vfs_model.specs.ScriptRun.{RunState, first_bad_rom, has_ended, no_schedule_at, opening_state, rom_image, sessions as numbers, state_after, take_entries}
 use Rattle.vfs_model.specs.Transcript.{finished_text, has_lines, session_text, session_title, sessions_text, transcript}
 use Rattle.vfs_model.specs.declared.script_form.ScriptForm.TheVariants as form
-use Rattle.vfs_model.specs.declared.world.World.{World}
+use Rattle.vfs_model.specs.declared.world.WorldState.{WorldState}
 use Rattle.plain_steps.specs.Opening.{StopsOpening, is_untold}
 use Rattle.plain_steps.specs.declared.plain_fault.PlainFault.{PlainFault}
 use Rattle.plain_steps.specs.declared.plain_fault.PlainFault.TheVariants as fault
@@ -71,7 +71,7 @@ opens-not deck describe schedule fault.NoMemory stops = tt
 opens-not deck describe schedule (fault.NoSchedule at) stops = absurd stops
 
 -- the start of a script, where its world was opened
-pub opening-stands : (stage : Stage) (deck : Deck) (describe : Describe) (w : World) → w ≡ opening_world (map rom_image deck.roms) describe →
+pub opening-stands : (stage : Stage) (deck : Deck) (describe : Describe) (w : WorldState) → w ≡ opening_world (map rom_image deck.roms) describe →
     StandsAt stage deck.acts (record { world = w; heard = replicate 8 []; is_over = false }) → StandsAt stage deck.acts (opening_state deck describe)
 opening-stands stage deck describe w opens stands = record {
   world = stands.world ∙ opens;
@@ -79,7 +79,7 @@ opening-stands stage deck describe w opens stands = record {
   is_over = stands.is_over;
 }
 
-module _ (stage now : Stage) (deck : Deck) (describe : Describe) (schedule : List Entry) (w : World)
+module _ (stage now : Stage) (deck : Deck) (describe : Describe) (schedule : List Entry) (w : WorldState)
     (opens : w ≡ opening_world (map rom_image deck.roms) describe) (roms : first_bad_rom deck ≡ None) (told : is_untold describe ≡ false)
     (stands : StandsAt stage deck.acts (record { world = w; heard = replicate 8 []; is_over = false })) where
   transcript-is : (whole : TakesWhole now deck (opening_state deck describe) schedule) →

@@ -53,7 +53,7 @@ placed mounts mount place d l = elim (below-or-past place (length mounts)) [
 
 module _ (n : Namespace) (mount : Mount) (s : Stands Nothing n) (may : MayMount n mount) where
   pub own-tree : tree_of n mount.number ≡ []
-  own-tree = s.folders.unused mount.number may.own
+  own-tree = s.working_directories.unused mount.number may.own
 
   -- the tree of the new number is empty already
   as-mounted : with_mount n mount [] ≡ with_one n mount
@@ -62,7 +62,7 @@ module _ (n : Namespace) (mount : Mount) (s : Stands Nothing n) (may : MayMount 
   one-node : (path : Path) → node_at (with_one n mount) path ≡ node_at n path
   one-node path =
       ap (λ m. node_at m path) (sym as-mounted)
-      ∙ empty-changes-nothing n mount path (standing-apart n s.folders) may.clear may.own (subst (λ x. mount.number < x) (sym s.sizes.trees) may.small) may.folder may.bare
+      ∙ empty-changes-nothing n mount path (standing-apart n s.working_directories) may.clear may.own (subst (λ x. mount.number < x) (sym s.sizes.trees) may.small) may.folder may.bare
 
   all-placed : (place : ℕ) (d : Mount) → place < length (all_mounts (with_one n mount)) → Placed (all_mounts n) mount place d
   all-placed place d l = placed (all_mounts n) mount place d l
@@ -118,7 +118,7 @@ module _ (n : Namespace) (mount : Mount) (s : Stands Nothing n) (may : MayMount 
           let q = (slice_index_or n.mounts place d).point in
           subst (λ m. stands_on_folder (with_one n mount) m.point) (sym x.1)
           (subst (λ cm. (node_in (tree_of n cm.number) (drop (length cm.point) q) ≡ Some node.Dir) × (list_any (λ entry. is_below (drop (length cm.point) q) entry.0) (tree_of n cm.number) ≡ false))
-          (sym (old-covered q (not-prefix (suc place) d (omega (arith, x.0))) (point-new (suc place) d (omega (arith, x.0))))) (s.folders.points place d x.0))
+          (sym (old-covered q (not-prefix (suc place) d (omega (arith, x.0))) (point-new (suc place) d (omega (arith, x.0))))) (s.working_directories.points place d x.0))
       at (inr x) =
           subst (λ m. stands_on_folder (with_one n mount) m.point) (sym x.1)
           (subst (λ cm. (node_in (tree_of n cm.number) (drop (length cm.point) mount.point) ≡ Some node.Dir) × (list_any (λ entry. is_below (drop (length cm.point) mount.point) entry.0) (tree_of n cm.number) ≡ false))
@@ -143,7 +143,7 @@ module _ (n : Namespace) (mount : Mount) (s : Stands Nothing n) (may : MayMount 
 
   one-numbers : (place : ℕ) (d : Mount) → place < length (all_mounts (with_one n mount)) → (slice_index_or (all_mounts (with_one n mount)) place d).number < 16
   one-numbers place d l = elim (all-placed place d l).is [
-    | inl x ↦ subst (λ m. m.number < 16) (sym x.1) (s.folders.numbers place d x.0)
+    | inl x ↦ subst (λ m. m.number < 16) (sym x.1) (s.working_directories.numbers place d x.0)
     | inr x ↦ subst (λ m. m.number < 16) (sym x.1) may.small
   ]
 
@@ -153,7 +153,7 @@ module _ (n : Namespace) (mount : Mount) (s : Stands Nothing n) (may : MayMount 
     | inl y ↦
         let before : slice_index_or (all_mounts (with_one n mount)) place d ≡ slice_index_or (all_mounts n) place d = get_or_append_left (all_mounts n) (mount ∷ []) d place (omega (arith, l, y.0)) in
         ap (λ x. is_below x.point (slice_index_or (all_mounts (with_one n mount)) place d).point) y.1 ∙ ap (λ x. is_below (slice_index_or (all_mounts n) other d).point x.point) before
-        ∙ s.folders.nested place other d l y.0
+        ∙ s.working_directories.nested place other d l y.0
     | inr y ↦
         let within : place < length (all_mounts n) = omega (arith, l, y.0) in
         let before : slice_index_or (all_mounts (with_one n mount)) place d ≡ slice_index_or (all_mounts n) place d = get_or_append_left (all_mounts n) (mount ∷ []) d place within in
@@ -170,17 +170,17 @@ module _ (n : Namespace) (mount : Mount) (s : Stands Nothing n) (may : MayMount 
     | inr k ↦ k
   ]
 
-  one-folders : FoldersStand (with_one n mount)
-  one-folders = record {
-    folders = λ k. ap is_dir_node (one-node (folder_of n k)) ∙ s.folders.folders k;
-    short = s.folders.short;
-    root = s.folders.root;
+  one-working_directories : FoldersStand (with_one n mount)
+  one-working_directories = record {
+    working_directories = λ k. ap is_dir_node (one-node (folder_of n k)) ∙ s.working_directories.working_directories k;
+    short = s.working_directories.short;
+    root = s.working_directories.root;
     points = one-points;
-    points_differ = differ-by (λ m. m.point) s.folders.points_differ point-new;
-    numbers_differ = differ-by (λ m. m.number) s.folders.numbers_differ number-new;
+    points_differ = differ-by (λ m. m.point) s.working_directories.points_differ point-new;
+    numbers_differ = differ-by (λ m. m.number) s.working_directories.numbers_differ number-new;
     numbers = one-numbers;
     nested = one-nested;
-    unused = λ number h. s.folders.unused number (not-before number h);
+    unused = λ number h. s.working_directories.unused number (not-before number h);
   }
 
   one-live : ReferencesLive (with_one n mount)
@@ -197,14 +197,14 @@ module _ (n : Namespace) (mount : Mount) (s : Stands Nothing n) (may : MayMount 
     live = one-live;
     used = s.used;
     alone = s.alone;
-    folders = one-folders;
+    working_directories = one-working_directories;
     trees = s.trees;
     roms = s.roms;
     sizes = record {
-      lives = s.sizes.lives;
+      live_files = s.sizes.live_files;
       generations = s.sizes.generations;
       trees = s.sizes.trees;
-      folders = s.sizes.folders;
+      working_directories = s.sizes.working_directories;
       mounts = let all : length (n.mounts ++ mount ∷ []) ≡ length n.mounts + 1 = length-append n.mounts (mount ∷ []) in let l = may.room in omega (arith, all, l);
       references = s.sizes.references;
     };
@@ -214,7 +214,7 @@ module _ (n : Namespace) (mount : Mount) (s : Stands Nothing n) (may : MayMount 
   still-found number None e P h = absurd h
   still-found number (Some m) e P h = find-append (λ x. x.number == number) (all_mounts n) (mount ∷ []) ∙ ap (λ x. option_or x (find (λ x. x.number == number) (mount ∷ []))) e
 
-  pub one-lives : LivesFit (with_one n mount)
-  one-lives row life h =
-      let before = s.lives row life h in
+  pub one-live_files : LivesFit (with_one n mount)
+  one-live_files row life h =
+      let before = s.live_files row life h in
       subst (λ found. IsSomeAnd found (λ m. fits_mount n life m ≡ true)) (sym (still-found life.mount (mount_numbered n life.mount) refl (λ m. fits_mount n life m ≡ true) before)) before

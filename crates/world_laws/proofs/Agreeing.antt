@@ -22,25 +22,25 @@ use Rattle.vfs_model.specs.declared.namespace.Origin.TheVariants as origin
 use Rattle.vfs_model.specs.declared.namespace.RowChange.TheVariants as change
 use Rattle.vfs_model.specs.declared.world.FileState.{FileState}
 use Rattle.vfs_model.specs.declared.world.FileState.TheVariants as file
-use Rattle.vfs_model.specs.declared.world.World.{World}
+use Rattle.vfs_model.specs.declared.world.WorldState.{WorldState}
 use Rattle.world_laws.proofs.Lists.{number-itself, same-or-other, set-here, set-there}
 use Rattle.world_laws.proofs.Passing.{and-both, and-second}
 use Rattle.world_laws.proofs.Taking.{set-at, with_life}
 
 -- the files of a world are those that the namespace says, and its cells hold what lies on them
-pub record Agrees (v : World) (n : Namespace) : Type 0 where
+pub record Agrees (v : WorldState) (n : Namespace) : Type 0 where
   pub files : length v.files ≡ 1024
   pub agree : (row : ℕ) → agrees (life_at n row) (generation_at n row) (file_at v row) ≡ true
   pub live : (row volume cell : ℕ) → backing_of (life_at n row) ≡ backing.Cell volume cell → file_capacity (file_at v row) ≤ cell_capacity v.namespace volume cell
   pub home : (volume cell : ℕ) → length (cell_bytes v.homes volume cell) ≤ cell_capacity v.namespace volume cell
 
 -- lives and generations alone tell which files agree
-pub agrees-beside : (v : World) (n m : Namespace) → n.lives ≡ m.lives → n.generations ≡ m.generations → Agrees v n → Agrees v m
+pub agrees-beside : (v : WorldState) (n m : Namespace) → n.live_files ≡ m.live_files → n.generations ≡ m.generations → Agrees v n → Agrees v m
 agrees-beside v n m e g a = record {
   files = a.files;
-  agree = λ row. subst (λ lives. agrees (slice_index_or lives (row - 1) None) (generation_at m row) (file_at v row) ≡ true) e
+  agree = λ row. subst (λ live_files. agrees (slice_index_or live_files (row - 1) None) (generation_at m row) (file_at v row) ≡ true) e
       (subst (λ generations. agrees (life_at n row) (slice_index_or generations (row - 1) 0) (file_at v row) ≡ true) g (a.agree row));
-  live = λ row volume cell h. a.live row volume cell (subst (λ lives. backing_of (slice_index_or lives (row - 1) None) ≡ backing.Cell volume cell) (sym e) h);
+  live = λ row volume cell h. a.live row volume cell (subst (λ live_files. backing_of (slice_index_or live_files (row - 1) None) ≡ backing.Cell volume cell) (sym e) h);
   home = a.home;
 }
 
@@ -65,7 +65,7 @@ bytes-agree life generation capacity k bytes e h l =
     itself kind.Cell = refl
     itself kind.Chr = refl
 
-bound-agrees : (v : World) (generation : ℕ) (life : LiveFile) (begins : Origin) → Begins life begins → ((volume cell : ℕ) → length (cell_bytes v.homes volume cell) ≤ cell_capacity v.namespace volume cell) →
+bound-agrees : (v : WorldState) (generation : ℕ) (life : LiveFile) (begins : Origin) → Begins life begins → ((volume cell : ℕ) → length (cell_bytes v.homes volume cell) ≤ cell_capacity v.namespace volume cell) →
     agrees (Some life) generation (bound_file v generation begins) ≡ true
 bound-agrees v generation life origin.Empty b home = bytes-agree life generation TMP_FILE_MAX kind.Tmp [] b.0 refl (omega arith)
 bound-agrees v generation life (origin.Rom place path) b home =
@@ -96,7 +96,7 @@ cell-volume v c w d e = (ap first e, ap second e)
     second (backing.Cell volume cell) = cell
     second (backing.Device device) = c
 
-bound-fits : (v : World) (generation : ℕ) (life : LiveFile) (begins : Origin) (volume cell : ℕ) → Begins life begins → life.backing ≡ backing.Cell volume cell →
+bound-fits : (v : WorldState) (generation : ℕ) (life : LiveFile) (begins : Origin) (volume cell : ℕ) → Begins life begins → life.backing ≡ backing.Cell volume cell →
     file_capacity (bound_file v generation begins) ≤ cell_capacity v.namespace volume cell
 bound-fits v generation life origin.Empty volume cell b e = absurd (no-cell volume cell (sym b.1 ∙ e))
 bound-fits v generation life (origin.Rom place path) volume cell b e = absurd (no-cell volume cell (sym b.1 ∙ e))
@@ -113,7 +113,7 @@ bound-fits v generation life (origin.Cell w d) volume cell b e =
     omega (arith, equal)
 
 -- bytes put on a cell at home
-home-set : (v : World) (volume cell : ℕ) (bytes : List ℕ) → length bytes ≤ cell_capacity v.namespace volume cell →
+home-set : (v : WorldState) (volume cell : ℕ) (bytes : List ℕ) → length bytes ≤ cell_capacity v.namespace volume cell →
     ((w d : ℕ) → length (cell_bytes v.homes w d) ≤ cell_capacity v.namespace w d) → (w d : ℕ) → length (cell_bytes (with_cell_bytes v.homes volume cell bytes) w d) ≤ cell_capacity v.namespace w d
 home-set v volume cell bytes l home w d =
     set-at (λ cells. length (slice_index_or cells d []) ≤ cell_capacity v.namespace w d) v.homes.cells volume w (slice_set (slice_index_or v.homes.cells volume []) cell bytes) []
@@ -122,7 +122,7 @@ home-set v volume cell bytes l home w d =
     (subst (λ x. length (slice_index_or (slice_index_or v.homes.cells x []) d []) ≤ cell_capacity v.namespace w d) e (home w d)))
     (home w d)
 
-bound-home : (v : World) (begins : Origin) → ((w d : ℕ) → length (cell_bytes v.homes w d) ≤ cell_capacity v.namespace w d) →
+bound-home : (v : WorldState) (begins : Origin) → ((w d : ℕ) → length (cell_bytes v.homes w d) ≤ cell_capacity v.namespace w d) →
     (w d : ℕ) → length (cell_bytes (homes_after_bind v.homes begins) w d) ≤ cell_capacity v.namespace w d
 bound-home v origin.Empty home = home
 bound-home v (origin.Rom place path) home = home
@@ -131,66 +131,66 @@ bound-home v (origin.NewCell volume cell) home = home
 bound-home v (origin.Device device) home = home
 
 -- what agrees hangs on lives and generations, which taking and giving back cells and devices leaves
-pub agrees-taken : (v : World) (m : Namespace) (b : Backing) → Agrees v m → Agrees v (after_taking m b)
+pub agrees-taken : (v : WorldState) (m : Namespace) (b : Backing) → Agrees v m → Agrees v (after_taking m b)
 agrees-taken v m backing.Memory a = a
 agrees-taken v m (backing.Cell volume cell) a = agrees-beside v m (with_cell false m volume cell) refl refl a
 agrees-taken v m (backing.Device device) a = agrees-beside v m (with_device true m device) refl refl a
 
-pub agrees-ended : (v : World) (m : Namespace) (e : End) → Agrees v m → Agrees v (after_end m e)
+pub agrees-ended : (v : WorldState) (m : Namespace) (e : End) → Agrees v m → Agrees v (after_end m e)
 agrees-ended v m end.Nothing a = a
 agrees-ended v m (end.Spare volume cell) a = agrees-beside v m (with_cell true m volume cell) refl refl a
 agrees-ended v m (end.Kept volume cell) a = a
 agrees-ended v m (end.Device device) a = agrees-beside v m (with_device false m device) refl refl a
 
 -- one row of both changes
-row-agrees : (v : World) (n : Namespace) (row other : ℕ) (found : Option LiveFile) (generation : ℕ) (f : FileState) → row - 1 < length v.files → row - 1 < length n.lives → row - 1 < length n.generations →
+row-agrees : (v : WorldState) (n : Namespace) (row other : ℕ) (found : Option LiveFile) (generation : ℕ) (f : FileState) → row - 1 < length v.files → row - 1 < length n.live_files → row - 1 < length n.generations →
     agrees found generation f ≡ true → agrees (life_at n other) (generation_at n other) (file_at v other) ≡ true →
     (other - 1 ≡ row - 1) ⊎ (other - 1 ≢ row - 1) →
-    agrees (slice_index_or (slice_set n.lives (row - 1) found) (other - 1) None) (slice_index_or (slice_set n.generations (row - 1) generation) (other - 1) 0)
+    agrees (slice_index_or (slice_set n.live_files (row - 1) found) (other - 1) None) (slice_index_or (slice_set n.generations (row - 1) generation) (other - 1) 0)
     (slice_index_or (slice_set v.files (row - 1) f) (other - 1) (file.Unbound 0)) ≡ true
 row-agrees v n row other found generation f l m g new old (inl e) =
-    ap (λ x. agrees (slice_index_or (slice_set n.lives (row - 1) found) x None) (slice_index_or (slice_set n.generations (row - 1) generation) x 0)
+    ap (λ x. agrees (slice_index_or (slice_set n.live_files (row - 1) found) x None) (slice_index_or (slice_set n.generations (row - 1) generation) x 0)
     (slice_index_or (slice_set v.files (row - 1) f) x (file.Unbound 0))) e
     ∙ ap (λ x. agrees x (slice_index_or (slice_set n.generations (row - 1) generation) (row - 1) 0) (slice_index_or (slice_set v.files (row - 1) f) (row - 1) (file.Unbound 0)))
-    (set-here n.lives (row - 1) found None m)
+    (set-here n.live_files (row - 1) found None m)
     ∙ ap (λ x. agrees found x (slice_index_or (slice_set v.files (row - 1) f) (row - 1) (file.Unbound 0))) (set-here n.generations (row - 1) generation 0 g)
     ∙ ap (agrees found generation) (set-here v.files (row - 1) f (file.Unbound 0) l) ∙ new
 row-agrees v n row other found generation f l m g new old (inr e) =
     ap (λ x. agrees x (slice_index_or (slice_set n.generations (row - 1) generation) (other - 1) 0) (slice_index_or (slice_set v.files (row - 1) f) (other - 1) (file.Unbound 0)))
-    (set-there n.lives (row - 1) (other - 1) found None e)
+    (set-there n.live_files (row - 1) (other - 1) found None e)
     ∙ ap (λ x. agrees (life_at n other) x (slice_index_or (slice_set v.files (row - 1) f) (other - 1) (file.Unbound 0))) (set-there n.generations (row - 1) (other - 1) generation 0 e)
     ∙ ap (agrees (life_at n other) (generation_at n other)) (set-there v.files (row - 1) (other - 1) f (file.Unbound 0) e) ∙ old
 
-row-fits : (v : World) (n : Namespace) (row other volume cell : ℕ) (found : Option LiveFile) (f : FileState) → row - 1 < length v.files → row - 1 < length n.lives →
+row-fits : (v : WorldState) (n : Namespace) (row other volume cell : ℕ) (found : Option LiveFile) (f : FileState) → row - 1 < length v.files → row - 1 < length n.live_files →
     (backing_of found ≡ backing.Cell volume cell → file_capacity f ≤ cell_capacity v.namespace volume cell) →
     (backing_of (life_at n other) ≡ backing.Cell volume cell → file_capacity (file_at v other) ≤ cell_capacity v.namespace volume cell) →
     (other - 1 ≡ row - 1) ⊎ (other - 1 ≢ row - 1) →
-    backing_of (slice_index_or (slice_set n.lives (row - 1) found) (other - 1) None) ≡ backing.Cell volume cell →
+    backing_of (slice_index_or (slice_set n.live_files (row - 1) found) (other - 1) None) ≡ backing.Cell volume cell →
     file_capacity (slice_index_or (slice_set v.files (row - 1) f) (other - 1) (file.Unbound 0)) ≤ cell_capacity v.namespace volume cell
 row-fits v n row other volume cell found f l m new old (inl e) h =
-    let here : slice_index_or (slice_set n.lives (row - 1) found) (other - 1) None ≡ found =
-    ap (λ x. slice_index_or (slice_set n.lives (row - 1) found) x None) e ∙ set-here n.lives (row - 1) found None m in
+    let here : slice_index_or (slice_set n.live_files (row - 1) found) (other - 1) None ≡ found =
+    ap (λ x. slice_index_or (slice_set n.live_files (row - 1) found) x None) e ∙ set-here n.live_files (row - 1) found None m in
     subst (λ x. file_capacity x ≤ cell_capacity v.namespace volume cell)
     (sym (ap (λ x. slice_index_or (slice_set v.files (row - 1) f) x (file.Unbound 0)) e ∙ set-here v.files (row - 1) f (file.Unbound 0) l))
     (new (sym (ap backing_of here) ∙ h))
 row-fits v n row other volume cell found f l m new old (inr e) h =
     subst (λ x. file_capacity x ≤ cell_capacity v.namespace volume cell) (sym (set-there v.files (row - 1) (other - 1) f (file.Unbound 0) e))
-    (old (sym (ap backing_of (set-there n.lives (row - 1) (other - 1) found None e)) ∙ h))
+    (old (sym (ap backing_of (set-there n.live_files (row - 1) (other - 1) found None e)) ∙ h))
 
 -- a row is bound in both
-pub bind-agrees : (v : World) (n : Namespace) (row : ℕ) (life : LiveFile) (begins : Origin) → row - 1 < 1024 → length n.lives ≡ 1024 → length n.generations ≡ 1024 → Begins life begins →
+pub bind-agrees : (v : WorldState) (n : Namespace) (row : ℕ) (life : LiveFile) (begins : Origin) → row - 1 < 1024 → length n.live_files ≡ 1024 → length n.generations ≡ 1024 → Begins life begins →
     Agrees v n → Agrees (change_row v (change.Bind (next_file n row) begins)) (bind_row n row life)
 unfolding bind_row
-bind-agrees v n row life begins l lives generations b a =
+bind-agrees v n row life begins l live_files generations b a =
     let f = bound_file v (generation_at n row + 1) begins in
     let in_files : row - 1 < length v.files = subst (λ x. row - 1 < x) (sym a.files) l in
-    let in_lives : row - 1 < length n.lives = subst (λ x. row - 1 < x) (sym lives) l in
+    let in_live_files : row - 1 < length n.live_files = subst (λ x. row - 1 < x) (sym live_files) l in
     let in_generations : row - 1 < length n.generations = subst (λ x. row - 1 < x) (sym generations) l in
     agrees-taken (change_row v (change.Bind (next_file n row) begins)) (with_life n row (Some life) (slice_set n.generations (row - 1) (generation_at n row + 1))) life.backing (record {
       files = length-set v.files (row - 1) f ∙ a.files;
-      agree = λ other. row-agrees v n row other (Some life) (generation_at n row + 1) f in_files in_lives in_generations (bound-agrees v (generation_at n row + 1) life begins b a.home) (a.agree other)
+      agree = λ other. row-agrees v n row other (Some life) (generation_at n row + 1) f in_files in_live_files in_generations (bound-agrees v (generation_at n row + 1) life begins b a.home) (a.agree other)
           (same-or-other (other - 1) (row - 1));
-      live = λ other volume cell h. row-fits v n row other volume cell (Some life) f in_files in_lives (bound-fits v (generation_at n row + 1) life begins volume cell b) (a.live other volume cell)
+      live = λ other volume cell h. row-fits v n row other volume cell (Some life) f in_files in_live_files (bound-fits v (generation_at n row + 1) life begins volume cell b) (a.live other volume cell)
           (same-or-other (other - 1) (row - 1)) h;
       home = bound-home v begins a.home;
     })
@@ -209,7 +209,7 @@ Ends b (end.Spare volume cell) = Unit {0}
 Ends b (end.Kept volume cell) = b ≡ backing.Cell volume cell
 Ends b (end.Device device) = Unit {0}
 
-ended-home : (v : World) (n : Namespace) (row : ℕ) (ending : End) → Ends (backing_of (life_at n row)) ending → Agrees v n →
+ended-home : (v : WorldState) (n : Namespace) (row : ℕ) (ending : End) → Ends (backing_of (life_at n row)) ending → Agrees v n →
     (w d : ℕ) → length (cell_bytes (homes_after_end v.homes (file_at v row) ending) w d) ≤ cell_capacity v.namespace w d
 ended-home v n row end.Nothing e a = a.home
 ended-home v n row (end.Spare volume cell) e a = a.home
@@ -220,27 +220,27 @@ ended-home v n row (end.Kept volume cell) e a =
     home-set v volume cell (bytes_of (file_at v row)) (omega (arith, fits, within)) a.home
 
 -- a row is freed in both
-pub free-agrees : (v : World) (n : Namespace) (row : ℕ) (ending : End) → row - 1 < 1024 → length n.lives ≡ 1024 → Ends (backing_of (life_at n row)) ending →
+pub free-agrees : (v : WorldState) (n : Namespace) (row : ℕ) (ending : End) → row - 1 < 1024 → length n.live_files ≡ 1024 → Ends (backing_of (life_at n row)) ending →
     Agrees v n → Agrees (change_row v (change.Free (file_of n row) ending)) (with_life n row None n.generations)
-free-agrees v n row ending l lives e a =
+free-agrees v n row ending l live_files e a =
     let f = file.Unbound (generation_at n row) in
     let in_files : row - 1 < length v.files = subst (λ x. row - 1 < x) (sym a.files) l in
-    let in_lives : row - 1 < length n.lives = subst (λ x. row - 1 < x) (sym lives) l in
+    let in_live_files : row - 1 < length n.live_files = subst (λ x. row - 1 < x) (sym live_files) l in
     record {
       files = length-set v.files (row - 1) f ∙ a.files;
       agree = λ other. freed-agrees other (same-or-other (other - 1) (row - 1));
-      live = λ other volume cell h. row-fits v n row other volume cell None f in_files in_lives (λ x. absurd (no-cell volume cell x)) (a.live other volume cell) (same-or-other (other - 1) (row - 1)) h;
+      live = λ other volume cell h. row-fits v n row other volume cell None f in_files in_live_files (λ x. absurd (no-cell volume cell x)) (a.live other volume cell) (same-or-other (other - 1) (row - 1)) h;
       home = ended-home v n row ending e a;
     }
   where
     freed-agrees : (other : ℕ) → (other - 1 ≡ row - 1) ⊎ (other - 1 ≢ row - 1) →
-        agrees (slice_index_or (slice_set n.lives (row - 1) None) (other - 1) None) (generation_at n other) (slice_index_or (slice_set v.files (row - 1) (file.Unbound (generation_at n row))) (other - 1) (file.Unbound 0)) ≡ true
+        agrees (slice_index_or (slice_set n.live_files (row - 1) None) (other - 1) None) (generation_at n other) (slice_index_or (slice_set v.files (row - 1) (file.Unbound (generation_at n row))) (other - 1) (file.Unbound 0)) ≡ true
     freed-agrees other (inl x) =
-        ap (λ y. agrees (slice_index_or (slice_set n.lives (row - 1) None) y None) (slice_index_or n.generations y 0) (slice_index_or (slice_set v.files (row - 1) (file.Unbound (generation_at n row))) y (file.Unbound 0))) x
+        ap (λ y. agrees (slice_index_or (slice_set n.live_files (row - 1) None) y None) (slice_index_or n.generations y 0) (slice_index_or (slice_set v.files (row - 1) (file.Unbound (generation_at n row))) y (file.Unbound 0))) x
         ∙ ap (λ y. agrees y (generation_at n row) (slice_index_or (slice_set v.files (row - 1) (file.Unbound (generation_at n row))) (row - 1) (file.Unbound 0)))
-        (set-here n.lives (row - 1) None None (subst (λ y. row - 1 < y) (sym lives) l))
+        (set-here n.live_files (row - 1) None None (subst (λ y. row - 1 < y) (sym live_files) l))
         ∙ ap (agrees None (generation_at n row)) (set-here v.files (row - 1) (file.Unbound (generation_at n row)) (file.Unbound 0) (subst (λ y. row - 1 < y) (sym a.files) l))
         ∙ number-itself (generation_at n row)
     freed-agrees other (inr x) =
-        ap (λ y. agrees y (generation_at n other) (slice_index_or (slice_set v.files (row - 1) (file.Unbound (generation_at n row))) (other - 1) (file.Unbound 0))) (set-there n.lives (row - 1) (other - 1) None None x)
+        ap (λ y. agrees y (generation_at n other) (slice_index_or (slice_set v.files (row - 1) (file.Unbound (generation_at n row))) (other - 1) (file.Unbound 0))) (set-there n.live_files (row - 1) (other - 1) None None x)
         ∙ ap (agrees (life_at n other) (generation_at n other)) (set-there v.files (row - 1) (other - 1) (file.Unbound (generation_at n row)) (file.Unbound 0) x) ∙ a.agree other

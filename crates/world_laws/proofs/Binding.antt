@@ -20,7 +20,7 @@ use Rattle.vfs_model.specs.declared.namespace.LiveFile.{LiveFile}
 use Rattle.vfs_model.specs.declared.namespace.Mount.{Mount}
 use Rattle.vfs_model.specs.declared.namespace.Namespace.{Namespace}
 use Rattle.vfs_model.specs.declared.namespace.VolumeState.{VolumeState}
-use Rattle.world_laws.proofs.Beside.{folders-beside, live-beside}
+use Rattle.world_laws.proofs.Beside.{working_directories-beside, live-beside}
 use Rattle.world_laws.proofs.Lists.{number-itself, other-number, same-or-other, same-some, set-here, set-there}
 use Rattle.world_laws.proofs.Passing.{and-both}
 use Rattle.world_laws.proofs.Standing.{IsUsed, NamespaceSizes, Nothing, Only, Stands}
@@ -54,11 +54,11 @@ some-life (Some life) P h e = absurd (cc)
 pub alive-bound : (n : Namespace) (row : ℕ) (found : Option LiveFile) (id : FileId) (kind : Kind) (number : ℕ) → life_at n row ≡ None →
     IsLive n id kind number → IsLive (with_life n row found (next_generations n row)) id kind number
 alive-bound n row found id kind number free live =
-    let other : id.row - 1 ≢ row - 1 = λ e. some-life (life_at n id.row) _ live.life (ap (λ k. slice_index_or n.lives k None) e ∙ free) in
+    let other : id.row - 1 ≢ row - 1 = λ e. some-life (life_at n id.row) _ live.life (ap (λ k. slice_index_or n.live_files k None) e ∙ free) in
     record {
       row = live.row;
       generation = set-there n.generations (row - 1) (id.row - 1) (generation_at n row + 1) 0 other ∙ live.generation;
-      life = subst (λ x. IsSomeAnd x (λ life. (life.kind ≡ kind) × (life.mount ≡ number))) (sym (set-there n.lives (row - 1) (id.row - 1) found None other)) live.life;
+      life = subst (λ x. IsSomeAnd x (λ life. (life.kind ≡ kind) × (life.mount ≡ number))) (sym (set-there n.live_files (row - 1) (id.row - 1) found None other)) live.life;
     }
 
 pub live-bound : (n : Namespace) (row : ℕ) (found : Option LiveFile) → life_at n row ≡ None → ReferencesLive n → ReferencesLive (with_life n row found (next_generations n row))
@@ -75,24 +75,24 @@ only-used n row other (inr (inr none)) = absurd none
 
 used-bound : (n : Namespace) (row : ℕ) (found : Option LiveFile) (other : ℕ) → 0 < row → 0 < other → (other - 1 ≡ row - 1) ⊎ (other - 1 ≢ row - 1) →
     ((at : ℕ) → 0 < at → is_some (life_at n at) ≡ true → IsUsed Nothing n at) →
-    is_some (slice_index_or (slice_set n.lives (row - 1) found) (other - 1) None) ≡ true → IsUsed (Only row) n other
+    is_some (slice_index_or (slice_set n.live_files (row - 1) found) (other - 1) None) ≡ true → IsUsed (Only row) n other
 used-bound n row found other l m (inl e) used h = inr (inr (omega (arith, e)))
 used-bound n row found other l m (inr e) used h =
-    only-used n row other (used other m (ap is_some (sym (set-there n.lives (row - 1) (other - 1) found None e)) ∙ h))
+    only-used n row other (used other m (ap is_some (sym (set-there n.live_files (row - 1) (other - 1) found None e)) ∙ h))
 
 -- how many files a cell has after a row was bound
-pub cells-bound : (n : Namespace) (row : ℕ) (life : LiveFile) (generations : List ℕ) (volume cell : ℕ) → row - 1 < length n.lives → life_at n row ≡ None →
+pub cells-bound : (n : Namespace) (row : ℕ) (life : LiveFile) (generations : List ℕ) (volume cell : ℕ) → row - 1 < length n.live_files → life_at n row ≡ None →
     cell_files (with_life n row (Some life) generations) volume cell ≡ cell_files n volume cell + one_if (lies_on_cell volume cell life.backing)
 cells-bound n row life generations volume cell l free =
-    let counted = count-set (is_backed_by (lies_on_cell volume cell)) n.lives (row - 1) (Some life) None l in
+    let counted = count-set (is_backed_by (lies_on_cell volume cell)) n.live_files (row - 1) (Some life) None l in
     let before : one_if (is_backed_by (lies_on_cell volume cell) (life_at n row)) ≡ 0 = ap (λ x. one_if (is_backed_by (lies_on_cell volume cell) x)) free in
     omega (arith, counted, before)
 
-devices-bound : (n : Namespace) (row : ℕ) (life : LiveFile) (device : ℕ) → row - 1 < length n.lives → life_at n row ≡ None →
-    count_by (is_backed_by (lies_on_device device)) (slice_set n.lives (row - 1) (Some life)) ≡
-    count_by (is_backed_by (lies_on_device device)) n.lives + one_if (lies_on_device device life.backing)
+devices-bound : (n : Namespace) (row : ℕ) (life : LiveFile) (device : ℕ) → row - 1 < length n.live_files → life_at n row ≡ None →
+    count_by (is_backed_by (lies_on_device device)) (slice_set n.live_files (row - 1) (Some life)) ≡
+    count_by (is_backed_by (lies_on_device device)) n.live_files + one_if (lies_on_device device life.backing)
 devices-bound n row life device l free =
-    let counted = count-set (is_backed_by (lies_on_device device)) n.lives (row - 1) (Some life) None l in
+    let counted = count-set (is_backed_by (lies_on_device device)) n.live_files (row - 1) (Some life) None l in
     let before : one_if (is_backed_by (lies_on_device device) (life_at n row)) ≡ 0 = ap (λ x. one_if (is_backed_by (lies_on_device device) x)) free in
     omega (arith, counted, before)
 
@@ -120,7 +120,7 @@ this-or-other volume cell v c = elim (same-or-other volume v) [
   | inr e ↦ inr (λ f. absurd (e f))
 ]
 
-cells-taken : (n : Namespace) (row : ℕ) (life : LiveFile) (generations : List ℕ) → row - 1 < length n.lives → life_at n row ≡ None → IsFreeBacking n life.backing →
+cells-taken : (n : Namespace) (row : ℕ) (life : LiveFile) (generations : List ℕ) → row - 1 < length n.live_files → life_at n row ≡ None → IsFreeBacking n life.backing →
     CellsPlaced n → (b : Backing) → life.backing ≡ b → CellsPlaced (after_taking (with_life n row (Some life) generations) b)
 cells-taken n row life generations l free may cells backing.Memory e volume cell v c =
     let bound = cells-bound n row life generations volume cell l free in
@@ -157,9 +157,9 @@ cells-taken n row life generations l free may cells (backing.Cell w d) e volume 
     ]
 
 -- devices taken
-pub devices-same : (n : Namespace) (row : ℕ) (life : LiveFile) (device : ℕ) → row - 1 < length n.lives → life_at n row ≡ None → lies_on_device device life.backing ≡ false →
+pub devices-same : (n : Namespace) (row : ℕ) (life : LiveFile) (device : ℕ) → row - 1 < length n.live_files → life_at n row ≡ None → lies_on_device device life.backing ≡ false →
     DevicesPlaced n → device < length n.devices →
-    count_by (is_backed_by (lies_on_device device)) (slice_set n.lives (row - 1) (Some life)) ≡ one_if (slice_index_or n.devices device no_device).is_out
+    count_by (is_backed_by (lies_on_device device)) (slice_set n.live_files (row - 1) (Some life)) ≡ one_if (slice_index_or n.devices device no_device).is_out
 devices-same n row life device l free apart devices d =
     let bound = devices-bound n row life device l free in
     let none : one_if (lies_on_device device life.backing) ≡ 0 = ap one_if apart in
@@ -174,7 +174,7 @@ out-other b n device other h = ap (λ d. d.is_out) (set-there n.devices device o
 pub out-here : (b : Bool) (n : Namespace) (device : ℕ) → device < length n.devices → (slice_index_or (with_device b n device).devices device no_device).is_out ≡ b
 out-here b n device l = ap (λ d. d.is_out) (set-here n.devices device (record (slice_index_or n.devices device no_device) { is_out = b }) no_device l)
 
-pub devices-taken : (n : Namespace) (row : ℕ) (life : LiveFile) (generations : List ℕ) → row - 1 < length n.lives → life_at n row ≡ None → IsFreeBacking n life.backing →
+pub devices-taken : (n : Namespace) (row : ℕ) (life : LiveFile) (generations : List ℕ) → row - 1 < length n.live_files → life_at n row ≡ None → IsFreeBacking n life.backing →
     DevicesPlaced n → (b : Backing) → life.backing ≡ b → DevicesPlaced (after_taking (with_life n row (Some life) generations) b)
 devices-taken n row life generations l free may devices backing.Memory e device d =
     devices-same n row life device l free (ap (lies_on_device device) e) devices d
@@ -204,7 +204,7 @@ but-taken m backing.Memory boxes = boxes
 but-taken m (backing.Cell volume cell) boxes = but-cell false m volume cell boxes
 but-taken m (backing.Device device) boxes = but-device true m device boxes
 
-boxes-bound : (n : Namespace) (row : ℕ) (life : LiveFile) (generations : List ℕ) → row - 1 < length n.lives → life_at n row ≡ None → IsFreeBacking n life.backing →
+boxes-bound : (n : Namespace) (row : ℕ) (life : LiveFile) (generations : List ℕ) → row - 1 < length n.live_files → life_at n row ≡ None → IsFreeBacking n life.backing →
     fits_kind (Some life) ≡ true → BoxesPlaced n → BoxesPlaced (after_taking (with_life n row (Some life) generations) life.backing)
 boxes-bound n row life generations l free may kind boxes =
     let m = with_life n row (Some life) generations in
@@ -214,12 +214,12 @@ boxes-bound n row life generations l free may kind boxes =
     (but-taken m life.backing (but-life n row (Some life) generations kind (boxes-but n boxes)))
 
 -- live files fit their mounts
-pub lives-set : (n : Namespace) (row : ℕ) (found : Option LiveFile) (generations : List ℕ) →
+pub live_files-set : (n : Namespace) (row : ℕ) (found : Option LiveFile) (generations : List ℕ) →
     ((life : LiveFile) → found ≡ Some life → IsSomeAnd (mount_numbered n life.mount) (λ mount. fits_mount n life mount ≡ true)) →
     LivesFit n → LivesFit (with_life n row found generations)
-lives-set n row found generations new fit other life h =
+live_files-set n row found generations new fit other life h =
     set-at (λ x. (life : LiveFile) → x ≡ Some life → IsSomeAnd (mount_numbered n life.mount) (λ mount. fits_mount n life mount ≡ true))
-    n.lives (row - 1) (other - 1) found None (λ e. new) (fit other) life h
+    n.live_files (row - 1) (other - 1) found None (λ e. new) (fit other) life h
 
 some-and : {X : Type 0} (P Q : X → Type 0) (found : Option X) → ((x : X) → P x → Q x) → IsSomeAnd found P → IsSomeAnd found Q
 some-and P Q None f h = h
@@ -236,15 +236,15 @@ fits-cell b n volume cell life mount (backing.Cell v c) e h = subst (λ x. fits_
     (subst (λ place. (same_kind life.kind (kind_of mount.fs) && (v == place)) ≡ true) (sym (cell-named b n volume cell mount.source))
     (subst (λ x. fits_mount n (record life { backing = x }) mount ≡ true) e h))
 
-pub lives-cell : (b : Bool) (n : Namespace) (volume cell : ℕ) → LivesFit n → LivesFit (with_cell b n volume cell)
-lives-cell b n volume cell fit row life h =
+pub live_files-cell : (b : Bool) (n : Namespace) (volume cell : ℕ) → LivesFit n → LivesFit (with_cell b n volume cell)
+live_files-cell b n volume cell fit row life h =
     some-and (λ mount. fits_mount n life mount ≡ true) (λ mount. fits_mount (with_cell b n volume cell) life mount ≡ true) (mount_numbered n life.mount)
     (λ mount. fits-cell b n volume cell life mount life.backing refl) (fit row life h)
 
-pub lives-taken : (m : Namespace) (b : Backing) → LivesFit m → LivesFit (after_taking m b)
-lives-taken m backing.Memory fit = fit
-lives-taken m (backing.Cell volume cell) fit = lives-cell false m volume cell fit
-lives-taken m (backing.Device device) fit = fit
+pub live_files-taken : (m : Namespace) (b : Backing) → LivesFit m → LivesFit (after_taking m b)
+live_files-taken m backing.Memory fit = fit
+live_files-taken m (backing.Cell volume cell) fit = live_files-cell false m volume cell fit
+live_files-taken m (backing.Device device) fit = fit
 
 -- what holds beside cells and devices
 pub record Rest (Excused : ℕ → Type 0) (n : Namespace) : Type 0 where
@@ -254,32 +254,32 @@ pub record Rest (Excused : ℕ → Type 0) (n : Namespace) : Type 0 where
       value_at path_cmp p (tree_of n number) ≡ Some (node.File id kind) →
       value_at path_cmp q (tree_of n other) ≡ Some (node.File same like) →
       id.row ≡ same.row → (number ≡ other) × (p ≡ q)
-  pub folders : FoldersStand n
+  pub working_directories : FoldersStand n
   pub trees : (number : ℕ) → IsClosedTree is_dir_node (tree_of n number)
   pub roms : RomsClosed n.roms
   pub sizes : NamespaceSizes n
 
 pub rest-of : (Excused : ℕ → Type 0) (n : Namespace) → Stands Excused n → Rest Excused n
-rest-of Excused n s = record { live = s.live; used = s.used; alone = s.alone; folders = s.folders; trees = s.trees; roms = s.roms; sizes = s.sizes }
+rest-of Excused n s = record { live = s.live; used = s.used; alone = s.alone; working_directories = s.working_directories; trees = s.trees; roms = s.roms; sizes = s.sizes }
 
 pub rest-stands : (Excused : ℕ → Type 0) (n : Namespace) → Rest Excused n → BoxesPlaced n → LivesFit n → Stands Excused n
-rest-stands Excused n s boxes lives =
-    record { live = s.live; used = s.used; alone = s.alone; folders = s.folders; trees = s.trees; boxes = boxes; lives = lives; roms = s.roms; sizes = s.sizes }
+rest-stands Excused n s boxes live_files =
+    record { live = s.live; used = s.used; alone = s.alone; working_directories = s.working_directories; trees = s.trees; boxes = boxes; live_files = live_files; roms = s.roms; sizes = s.sizes }
 
 -- it does not hang on volumes and devices
 pub rest-beside : (Excused : ℕ → Type 0) (n : Namespace) (volumes : List VolumeState) (devices : List DeviceState) → Rest Excused n → Rest Excused (record n { volumes = volumes; devices = devices })
 rest-beside Excused n volumes devices s = record {
-  live = live-beside n n.folders volumes devices s.live;
+  live = live-beside n n.working_directories volumes devices s.live;
   used = s.used;
   alone = s.alone;
-  folders = folders-beside n n.lives n.generations n.references volumes devices s.folders;
+  working_directories = working_directories-beside n n.live_files n.generations n.references volumes devices s.working_directories;
   trees = s.trees;
   roms = s.roms;
   sizes = record {
-    lives = s.sizes.lives;
+    live_files = s.sizes.live_files;
     generations = s.sizes.generations;
     trees = s.sizes.trees;
-    folders = s.sizes.folders;
+    working_directories = s.sizes.working_directories;
     mounts = s.sizes.mounts;
     references = s.sizes.references;
   };
@@ -294,24 +294,24 @@ rest-taken Excused m (backing.Device device) s = rest-beside Excused m m.volumes
 pub bind-stands : (n : Namespace) (row : ℕ) (life : LiveFile) → MayBind n row life → Stands Nothing n → Stands (Only row) (bind_row n row life)
 unfolding bind_row
 bind-stands n row life may s =
-    let within : row - 1 < length n.lives = subst (λ x. row - 1 < x) (sym s.sizes.lives) may.within in
+    let within : row - 1 < length n.live_files = subst (λ x. row - 1 < x) (sym s.sizes.live_files) may.within in
     rest-stands (Only row) _
     (rest-taken (Only row) (with_life n row (Some life) (next_generations n row)) life.backing (record {
       live = live-bound n row (Some life) may.free s.live;
       used = λ other l h. used-bound n row (Some life) other may.counted l (same-or-other (other - 1) (row - 1)) s.used h;
       alone = s.alone;
-      folders = folders-beside n (slice_set n.lives (row - 1) (Some life)) (next_generations n row) n.references n.volumes n.devices s.folders;
+      working_directories = working_directories-beside n (slice_set n.live_files (row - 1) (Some life)) (next_generations n row) n.references n.volumes n.devices s.working_directories;
       trees = s.trees;
       roms = s.roms;
       sizes = record {
-        lives = length-set n.lives (row - 1) (Some life) ∙ s.sizes.lives;
+        live_files = length-set n.live_files (row - 1) (Some life) ∙ s.sizes.live_files;
         generations = length-set n.generations (row - 1) _ ∙ s.sizes.generations;
         trees = s.sizes.trees;
-        folders = s.sizes.folders;
+        working_directories = s.sizes.working_directories;
         mounts = s.sizes.mounts;
         references = s.sizes.references;
       };
     }))
     (boxes-bound n row life (next_generations n row) within may.free may.backing may.kind s.boxes)
-    (lives-taken _ life.backing (lives-set n row (Some life) (next_generations n row)
-    (λ other e. subst (λ x. IsSomeAnd (mount_numbered n x.mount) (λ mount. fits_mount n x mount ≡ true)) (same-some life other e) may.mount) s.lives))
+    (live_files-taken _ life.backing (live_files-set n row (Some life) (next_generations n row)
+    (λ other e. subst (λ x. IsSomeAnd (mount_numbered n x.mount) (λ mount. fits_mount n x mount ≡ true)) (same-some life other e) may.mount) s.live_files))

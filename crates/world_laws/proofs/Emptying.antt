@@ -15,9 +15,9 @@ use Rattle.vfs_model.specs.declared.namespace.LiveFile.{LiveFile}
 use Rattle.vfs_model.specs.declared.namespace.Namespace.{Namespace}
 use Rattle.vfs_model.specs.declared.namespace.RowChange.{RowChange}
 use Rattle.vfs_model.specs.declared.namespace.RowChange.TheVariants as change
-use Rattle.vfs_model.specs.declared.world.World.{World}
+use Rattle.vfs_model.specs.declared.world.WorldState.{WorldState}
 use Rattle.world_laws.proofs.Agreeing.{Agrees, Ends, agrees-ended, free-agrees}
-use Rattle.world_laws.proofs.Beside.{folders-beside}
+use Rattle.world_laws.proofs.Beside.{working_directories-beside}
 use Rattle.world_laws.proofs.Binding.{Rest, out-here, out-other, rest-beside}
 use Rattle.world_laws.proofs.Freeing.{alive-freed, backed-by, cells-freed, devices-freed, without_life}
 use Rattle.world_laws.proofs.Lists.{number-itself, other-number, same-number, same-or-other, set-here, set-there}
@@ -51,7 +51,7 @@ pub record Empty (number : ℕ) (m : Namespace) (left : List ℕ) : Type 0 where
   -- its volume keeps the files already, so the cells of those that are left are counted twice
   pub cells : (volume cell : ℕ) → volume < length m.volumes → cell < length (volume_at m volume).pages →
       cell_files m volume cell + one_if (slice_index_or (volume_at m volume).spare cell false) ≡ 1 + twice m volume cell left
-  pub lives : (row : ℕ) (life : LiveFile) → life_at m row ≡ Some life → life.mount ≢ number → IsSomeAnd (mount_numbered m life.mount) (λ mount. fits_mount m life mount ≡ true)
+  pub live_files : (row : ℕ) (life : LiveFile) → life_at m row ≡ Some life → life.mount ≢ number → IsSomeAnd (mount_numbered m life.mount) (λ mount. fits_mount m life mount ≡ true)
   -- each live file of the mount is left, and nothing names it
   pub whole : (row : ℕ) (life : LiveFile) → 0 < row → life_at m row ≡ Some life → life.mount ≡ number → InRows left row
   pub rows : RowsLeft number m left
@@ -65,7 +65,7 @@ above-apart row other (r ∷ rows) above (inr i) e = above-apart row other rows 
 
 -- other rows' lives after one was freed
 still-life : (m : Namespace) (row other : ℕ) → other - 1 ≢ row - 1 → life_at (without_life m row) other ≡ life_at m other
-still-life m row other h = set-there m.lives (row - 1) (other - 1) None None h
+still-life m row other h = set-there m.live_files (row - 1) (other - 1) None None h
 
 rows-differ : (row other : ℕ) → 0 < row → row < other → other - 1 ≢ row - 1
 rows-differ row other l m e = omega (arith, l, m, e)
@@ -111,7 +111,7 @@ at-most : (b : Bool) → one_if b ≤ 1
 at-most true = omega arith
 at-most false = omega arith
 
-devices-ended : (n : Namespace) (row : ℕ) → row - 1 < length n.lives → DevicesPlaced n → (b : Backing) → backing_of (life_at n row) ≡ b → DevicesPlaced (after_end (without_life n row) (end_of_unmounted b))
+devices-ended : (n : Namespace) (row : ℕ) → row - 1 < length n.live_files → DevicesPlaced n → (b : Backing) → backing_of (life_at n row) ≡ b → DevicesPlaced (after_end (without_life n row) (end_of_unmounted b))
 devices-ended n row l devices backing.Memory e device d =
     let freed = devices-freed n row device l in
     let none : one_if (lies_on_device device (backing_of (life_at n row))) ≡ 0 = ap (λ x. one_if (lies_on_device device x)) e in
@@ -141,20 +141,20 @@ devices-ended n row l devices (backing.Device one) e device d =
           omega (arith, freed, counts, is, before, most)
     ]
 
-ended-same : (m : Namespace) (b : Backing) → ((after_end m (end_of_unmounted b)).lives ≡ m.lives) × ((after_end m (end_of_unmounted b)).trees ≡ m.trees)
+ended-same : (m : Namespace) (b : Backing) → ((after_end m (end_of_unmounted b)).live_files ≡ m.live_files) × ((after_end m (end_of_unmounted b)).trees ≡ m.trees)
     × ((after_end m (end_of_unmounted b)).references ≡ m.references) × ((after_end m (end_of_unmounted b)).root ≡ m.root) × ((after_end m (end_of_unmounted b)).mounts ≡ m.mounts)
 ended-same m backing.Memory = (refl, refl, refl, refl, refl)
 ended-same m (backing.Cell v c) = (refl, refl, refl, refl, refl)
 ended-same m (backing.Device device) = (refl, refl, refl, refl, refl)
 
-used-left : (m : Namespace) (row other : ℕ) (rows : List ℕ) → row - 1 < length m.lives → 0 < row → 0 < other → (other - 1 ≡ row - 1) ⊎ (other - 1 ≢ row - 1) →
+used-left : (m : Namespace) (row other : ℕ) (rows : List ℕ) → row - 1 < length m.live_files → 0 < row → 0 < other → (other - 1 ≡ row - 1) ⊎ (other - 1 ≢ row - 1) →
     ((at : ℕ) → 0 < at → is_some (life_at m at) ≡ true → IsUsed (InRows (row ∷ rows)) m at) →
-    is_some (slice_index_or (slice_set m.lives (row - 1) None) (other - 1) None) ≡ true → IsUsed (InRows rows) (without_life m row) other
+    is_some (slice_index_or (slice_set m.live_files (row - 1) None) (other - 1) None) ≡ true → IsUsed (InRows rows) (without_life m row) other
 used-left m row other rows within l k (inl e) used h =
-    let none : is_some (slice_index_or (slice_set m.lives (row - 1) None) (other - 1) None) ≡ false =
-    ap (λ x. is_some (slice_index_or (slice_set m.lives (row - 1) None) x None)) e ∙ ap is_some (set-here m.lives (row - 1) None None within) in
+    let none : is_some (slice_index_or (slice_set m.live_files (row - 1) None) (other - 1) None) ≡ false =
+    ap (λ x. is_some (slice_index_or (slice_set m.live_files (row - 1) None) x None)) e ∙ ap is_some (set-here m.live_files (row - 1) None None within) in
     absurd (cc)
-used-left m row other rows within l k (inr e) used h = fewer (used other k (ap is_some (sym (set-there m.lives (row - 1) (other - 1) None None e)) ∙ h))
+used-left m row other rows within l k (inr e) used h = fewer (used other k (ap is_some (sym (set-there m.live_files (row - 1) (other - 1) None None e)) ∙ h))
   where
     fewer : IsUsed (InRows (row ∷ rows)) m other → IsUsed (InRows rows) (without_life m row) other
     fewer (inl linked) = inl linked
@@ -166,18 +166,18 @@ pub of-mount : (number : ℕ) (found : Option LiveFile) → is_of_mount number f
 of-mount number None h = absurd (cc)
 of-mount number (Some life) h = (life, refl, same-number life.mount number h)
 
-lives-beside-end : (m : Namespace) (number : ℕ) (b : Backing) →
+live_files-beside-end : (m : Namespace) (number : ℕ) (b : Backing) →
     ((row : ℕ) (life : LiveFile) → life_at m row ≡ Some life → life.mount ≢ number → IsSomeAnd (mount_numbered m life.mount) (λ mount. fits_mount m life mount ≡ true)) →
     (row : ℕ) (life : LiveFile) → life_at (after_end m (end_of_unmounted b)) row ≡ Some life → life.mount ≢ number →
     IsSomeAnd (mount_numbered (after_end m (end_of_unmounted b)) life.mount) (λ mount. fits_mount (after_end m (end_of_unmounted b)) life mount ≡ true)
-lives-beside-end m number backing.Memory fit = fit
-lives-beside-end m number (backing.Cell v c) fit = fit
-lives-beside-end m number (backing.Device device) fit = fit
+live_files-beside-end m number backing.Memory fit = fit
+live_files-beside-end m number (backing.Cell v c) fit = fit
+live_files-beside-end m number (backing.Device device) fit = fit
 
 rows-left-beside : (number : ℕ) (m : Namespace) (b : Backing) (rows : List ℕ) → RowsLeft number m rows → RowsLeft number (after_end m (end_of_unmounted b)) rows
 rows-left-beside number m b [] left = tt
 rows-left-beside number m b (r ∷ rows) left =
-    (left.0, left.1, ap (λ lives. is_of_mount number (slice_index_or lives (r - 1) None)) (ended-same m b).0 ∙ left.2, left.3, rows-left-beside number m b rows left.4)
+    (left.0, left.1, ap (λ live_files. is_of_mount number (slice_index_or live_files (r - 1) None)) (ended-same m b).0 ∙ left.2, left.3, rows-left-beside number m b rows left.4)
 
 -- one row is freed
 pub empty-one : (number : ℕ) (m : Namespace) (row : ℕ) (rows : List ℕ) (changes : List RowChange) → Empty number m (row ∷ rows) →
@@ -187,7 +187,7 @@ empty-one number m row rows changes f =
     let left = f.rows in
     let b = backing_of (life_at m row) in
     let t = without_life m row in
-    let within : row - 1 < length m.lives = subst (λ x. row - 1 < x) (sym f.rest.sizes.lives) left.1 in
+    let within : row - 1 < length m.live_files = subst (λ x. row - 1 < x) (sym f.rest.sizes.live_files) left.1 in
     let same = ended-same t b in
     record {
       rest = rest-ended (InRows rows) t b (record {
@@ -204,14 +204,14 @@ empty-one number m row rows changes f =
         };
         used = λ other l h. used-left m row other rows within left.0 l (same-or-other (other - 1) (row - 1)) f.rest.used h;
         alone = f.rest.alone;
-        folders = folders-beside m (slice_set m.lives (row - 1) None) m.generations m.references m.volumes m.devices f.rest.folders;
+        working_directories = working_directories-beside m (slice_set m.live_files (row - 1) None) m.generations m.references m.volumes m.devices f.rest.working_directories;
         trees = f.rest.trees;
         roms = f.rest.roms;
         sizes = record {
-          lives = length-set m.lives (row - 1) None ∙ f.rest.sizes.lives;
+          live_files = length-set m.live_files (row - 1) None ∙ f.rest.sizes.live_files;
           generations = f.rest.sizes.generations;
           trees = f.rest.sizes.trees;
-          folders = f.rest.sizes.folders;
+          working_directories = f.rest.sizes.working_directories;
           mounts = f.rest.sizes.mounts;
           references = f.rest.sizes.references;
         };
@@ -230,8 +230,8 @@ empty-one number m row rows changes f =
           let spare = ap (λ vs. one_if (slice_index_or (slice_index_or vs volume no_volume).spare cell false)) alike.1 in
           let files = alike.0 in
           omega (arith, before, freed, one, backed, later, still, spare, files);
-      lives = lives-beside-end t number b (λ other life h apart. lives-before other life h apart (same-or-other (other - 1) (row - 1)));
-      whole = λ other life l h e. whole-left other life l (subst (λ lives. slice_index_or lives (other - 1) None ≡ Some life) same.0 h) e (same-or-other (other - 1) (row - 1));
+      live_files = live_files-beside-end t number b (λ other life h apart. live_files-before other life h apart (same-or-other (other - 1) (row - 1)));
+      whole = λ other life l h e. whole-left other life l (subst (λ live_files. slice_index_or live_files (other - 1) None ≡ Some life) same.0 h) e (same-or-other (other - 1) (row - 1));
       rows = rows-left-beside number t b rows (still-left number m row rows left.0 left.3 left.4);
       unlinked = λ other i linked u. f.unlinked other (inr i) (subst (λ trees. LinkedIn trees other) same.1 linked) tt;
       unheld = λ other i held u. f.unheld other (inr i) (record { place = held.place; reference = held.reference; there = subst (λ references. slice_index_or references held.place None ≡ Some held.reference) same.2 held.there; is = held.is }) tt;
@@ -240,20 +240,20 @@ empty-one number m row rows changes f =
     apart : (row other : ℕ) → 0 < row → 0 < other → (other ≡ row → ⊥) → other - 1 ≢ row - 1
     apart row other l k h e = h (omega (arith, l, k, e))
 
-    gone : (other : ℕ) (life : LiveFile) → other - 1 ≡ row - 1 → slice_index_or (slice_set m.lives (row - 1) None) (other - 1) None ≢ Some life
+    gone : (other : ℕ) (life : LiveFile) → other - 1 ≡ row - 1 → slice_index_or (slice_set m.live_files (row - 1) None) (other - 1) None ≢ Some life
     gone other life e h =
-        let none : slice_index_or (slice_set m.lives (row - 1) None) (other - 1) None ≡ None =
-        ap (λ x. slice_index_or (slice_set m.lives (row - 1) None) x None) e ∙ set-here m.lives (row - 1) None None (subst (λ x. row - 1 < x) (sym f.rest.sizes.lives) f.rows.1) in
+        let none : slice_index_or (slice_set m.live_files (row - 1) None) (other - 1) None ≡ None =
+        ap (λ x. slice_index_or (slice_set m.live_files (row - 1) None) x None) e ∙ set-here m.live_files (row - 1) None None (subst (λ x. row - 1 < x) (sym f.rest.sizes.live_files) f.rows.1) in
         absurd (cc)
 
-    lives-before : (other : ℕ) (life : LiveFile) → slice_index_or (slice_set m.lives (row - 1) None) (other - 1) None ≡ Some life → life.mount ≢ number → (other - 1 ≡ row - 1) ⊎ (other - 1 ≢ row - 1) →
+    live_files-before : (other : ℕ) (life : LiveFile) → slice_index_or (slice_set m.live_files (row - 1) None) (other - 1) None ≡ Some life → life.mount ≢ number → (other - 1 ≡ row - 1) ⊎ (other - 1 ≢ row - 1) →
         IsSomeAnd (mount_numbered m life.mount) (λ mount. fits_mount m life mount ≡ true)
-    lives-before other life h away (inl e) = absurd (gone other life e h)
-    lives-before other life h away (inr e) = f.lives other life (sym (set-there m.lives (row - 1) (other - 1) None None e) ∙ h) away
+    live_files-before other life h away (inl e) = absurd (gone other life e h)
+    live_files-before other life h away (inr e) = f.live_files other life (sym (set-there m.live_files (row - 1) (other - 1) None None e) ∙ h) away
 
-    whole-left : (other : ℕ) (life : LiveFile) → 0 < other → slice_index_or (slice_set m.lives (row - 1) None) (other - 1) None ≡ Some life → life.mount ≡ number → (other - 1 ≡ row - 1) ⊎ (other - 1 ≢ row - 1) → InRows rows other
+    whole-left : (other : ℕ) (life : LiveFile) → 0 < other → slice_index_or (slice_set m.live_files (row - 1) None) (other - 1) None ≡ Some life → life.mount ≡ number → (other - 1 ≡ row - 1) ⊎ (other - 1 ≢ row - 1) → InRows rows other
     whole-left other life l h e (inl k) = absurd (gone other life k h)
-    whole-left other life l h e (inr k) = later (f.whole other life l (sym (set-there m.lives (row - 1) (other - 1) None None k) ∙ h) e)
+    whole-left other life l h e (inr k) = later (f.whole other life l (sym (set-there m.live_files (row - 1) (other - 1) None None k) ∙ h) e)
       where
         later : InRows (row ∷ rows) other → InRows rows other
         later (inl same) = absurd (k (ap (λ x. x - 1) same))
@@ -273,7 +273,7 @@ ended-pages m (backing.Device device) volume cell = refl
 pub record Emptied (number : ℕ) (m : Namespace) (left : List ℕ) (changes : List RowChange) : Type 0 where
   pub empty : Empty number (fold (free_row end_of_unmounted) (record { next = m; changes = changes }) left).next []
   pub pages : (volume cell : ℕ) → cell_capacity (fold (free_row end_of_unmounted) (record { next = m; changes = changes }) left).next volume cell ≡ cell_capacity m volume cell
-  pub files : (v : World) → Agrees (fold change_row v changes) m → Agrees (fold change_row v (fold (free_row end_of_unmounted) (record { next = m; changes = changes }) left).changes)
+  pub files : (v : WorldState) → Agrees (fold change_row v changes) m → Agrees (fold change_row v (fold (free_row end_of_unmounted) (record { next = m; changes = changes }) left).changes)
       (fold (free_row end_of_unmounted) (record { next = m; changes = changes }) left).next
 
 pub empty-all : (left : List ℕ) (number : ℕ) (m : Namespace) (changes : List RowChange) → Empty number m left → Emptied number m left changes
@@ -288,5 +288,5 @@ empty-all (row ∷ rows) number m changes f =
       empty = later.empty;
       pages = λ volume cell. later.pages volume cell ∙ ended-pages (without_life m row) b volume cell;
       files = λ v a. later.files v (subst (λ w. Agrees w next) (sym (fold-append change_row v changes (change.Free (file_of m row) (end_of_unmounted b) ∷ [])))
-          (agrees-ended _ (without_life m row) (end_of_unmounted b) (free-agrees (fold change_row v changes) m row (end_of_unmounted b) f.rows.1 f.rest.sizes.lives (unmounted-ends b) a)));
+          (agrees-ended _ (without_life m row) (end_of_unmounted b) (free-agrees (fold change_row v changes) m row (end_of_unmounted b) f.rows.1 f.rest.sizes.live_files (unmounted-ends b) a)));
     }

@@ -63,7 +63,7 @@ give_up-kept as_role n k hold s =
     wanted-kept n errno.EBADF (reference_at n k hold as_role) _ (λ reference h.
     let there = reference-place n k hold as_role reference h in
     let good = s.live.held (place_of k hold.number) reference there in
-    let row = live-row n reference.file reference.kind reference.mount s.sizes.lives good.0 in
+    let row = live-row n reference.file reference.kind reference.mount s.sizes.live_files good.0 in
     lost-kept n (with_reference n k hold.number None) reference.file.row row.0 row.1 (unrefer-stands n (place_of k hold.number) reference there s) refl refl refl)
 
 pub close-kept : (n : Namespace) (k : ℕ) (hold : HoldId) → Stands Nothing n → Kept n (close_step n k hold)

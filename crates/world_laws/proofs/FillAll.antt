@@ -21,7 +21,7 @@ use Rattle.vfs_model.specs.declared.namespace.Namespace.{Namespace}
 use Rattle.vfs_model.specs.declared.namespace.Origin.{Origin}
 use Rattle.vfs_model.specs.declared.namespace.RowChange.{RowChange}
 use Rattle.vfs_model.specs.declared.namespace.RowChange.TheVariants as change
-use Rattle.vfs_model.specs.declared.world.World.{World}
+use Rattle.vfs_model.specs.declared.world.WorldState.{WorldState}
 use Rattle.world_laws.proofs.Agreeing.{Agrees, bind-agrees}
 use Rattle.world_laws.proofs.Binding.{next_generations}
 use Rattle.world_laws.proofs.Filling.{Fill, begins-fit, fill-file, fill-folder, life_of}
@@ -63,7 +63,7 @@ module _ (mount : Mount) where
     pub fill : Fill mount base last final (behind ++ left) []
     pub is : (fold adds (record { next = with_tree m mount.number tree; changes = changes }) left).next ≡ with_tree last mount.number final
     pub pages : (volume cell : ℕ) → cell_capacity last volume cell ≡ cell_capacity m volume cell
-    pub files : (v : World) → Agrees (fold change_row v changes) m → Agrees (fold change_row v (fold adds (record { next = with_tree m mount.number tree; changes = changes }) left).changes) last
+    pub files : (v : WorldState) → Agrees (fold change_row v changes) m → Agrees (fold change_row v (fold adds (record { next = with_tree m mount.number tree; changes = changes }) left).changes) last
 
   folder-rows : (m : Namespace) (tree : Tree) (p : Path) (changes : List RowChange) → length m.trees ≡ 16 → mount.number < 16 →
       adds (record { next = with_tree m mount.number tree; changes = changes }) (p, None) ≡ record { next = with_tree m mount.number (put path_cmp p node.Dir tree); changes = changes }
@@ -111,7 +111,7 @@ module _ (mount : Mount) where
       let later = fill-all left base bound (put path_cmp p (node.File (next_file m row) (kind_of mount.fs)) tree) (behind ++ (p, Some begins) ∷ []) (changes ++ change.Bind (next_file m row) begins ∷ []) l more in
       let rows = file-rows m tree p begins changes f.rest.sizes.trees l in
       let counted : file_count ((p, Some begins) ∷ left) ≡ 1 + file_count left = sum_by-cons (λ entry. one_if (is_some entry.1)) (p, Some begins) left in
-      let free = some-free m f.rest.sizes.lives f.rest.sizes.generations (let room = f.room in omega (arith, counted, room)) in
+      let free = some-free m f.rest.sizes.live_files f.rest.sizes.generations (let room = f.room in omega (arith, counted, room)) in
       record {
         last = later.last;
         final = later.final;
@@ -120,5 +120,5 @@ module _ (mount : Mount) where
         pages = λ volume cell. later.pages volume cell ∙ taken-pages (with_life m row (Some (life_of mount begins)) (next_generations m row)) (life_of mount begins).backing volume cell;
         files = λ v a. subst (λ r. Agrees (fold change_row v (fold adds r left).changes) later.last) (sym rows)
             (later.files v (subst (λ w. Agrees w bound) (sym (fold-append change_row v changes (change.Bind (next_file m row) begins ∷ [])))
-            (bind-agrees (fold change_row v changes) m row (life_of mount begins) begins free.small f.rest.sizes.lives f.rest.sizes.generations (begins-fit mount m p begins f.fit.0) a)));
+            (bind-agrees (fold change_row v changes) m row (life_of mount begins) begins free.small f.rest.sizes.live_files f.rest.sizes.generations (begins-fit mount m p begins f.fit.0) a)));
       }

@@ -30,8 +30,8 @@ use Rattle.vfs_model.specs.declared.namespace.Namespace.{Namespace}
 use Rattle.vfs_model.specs.declared.namespace.Origin.{Origin}
 use Rattle.vfs_model.specs.declared.namespace.Origin.TheVariants as origin
 use Rattle.world_laws.proofs.Agreeing.{Begins}
-use Rattle.world_laws.proofs.Beside.{folders-beside}
-use Rattle.world_laws.proofs.Binding.{Rest, alive-bound, apart-cell, but-taken, cells-bound, devices-same, devices-taken, lives-set, lives-taken, live-bound, next_generations, out-other, own-cell, rest-taken, some-life, this-or-other}
+use Rattle.world_laws.proofs.Beside.{working_directories-beside}
+use Rattle.world_laws.proofs.Binding.{Rest, alive-bound, apart-cell, but-taken, cells-bound, devices-same, devices-taken, live_files-set, live_files-taken, live-bound, next_generations, out-other, own-cell, rest-taken, some-life, this-or-other}
 use Rattle.world_laws.proofs.FreeRows.{free_count, one-less, some-free}
 use Rattle.world_laws.proofs.Lists.{number-itself, same-or-other, same-some, set-here, set-there}
 use Rattle.world_laws.proofs.OpenKeeping.{FreeRow, kind-itself, taken-trees}
@@ -96,7 +96,7 @@ module _ (mount : Mount) where
     pub devices : DevicesPlaced m
     pub cells : (volume cell : ℕ) → volume < length m.volumes → cell < length (volume_at m volume).pages →
         cell_files m volume cell + pending left volume cell + one_if (slice_index_or (volume_at m volume).spare cell false) ≡ 1
-    pub lives : LivesFit m
+    pub live_files : LivesFit m
     pub found : mount_numbered m mount.number ≡ Some mount
     pub files : (path : Path) (id : FileId) (kind : Kind) → value_at path_cmp path tree ≡ Some (node.File id kind) → IsLive m id kind mount.number × (Linked m id.row → Unit {0} → ⊥)
     pub alone : (p q : Path) (id same : FileId) (kind like : Kind) → value_at path_cmp p tree ≡ Some (node.File id kind) → value_at path_cmp q tree ≡ Some (node.File same like) →
@@ -109,7 +109,7 @@ module _ (mount : Mount) where
     pub fit : AllFit m left
     pub root : m.root ≡ base.root
     pub mounts : m.mounts ≡ base.mounts
-    pub folders : m.folders ≡ base.folders
+    pub working_directories : m.working_directories ≡ base.working_directories
     pub trees : m.trees ≡ base.trees
 
   less-apart : (p q : Path) → T (is_lt (path_cmp p q)) → p ≢ q
@@ -216,7 +216,7 @@ module _ (mount : Mount) where
           live = f.rest.live;
           used = λ row l h. more-used m tree p node.Dir row none (f.rest.used row l h);
           alone = f.rest.alone;
-          folders = f.rest.folders;
+          working_directories = f.rest.working_directories;
           trees = f.rest.trees;
           roms = f.rest.roms;
           sizes = f.rest.sizes;
@@ -227,7 +227,7 @@ module _ (mount : Mount) where
             let before = f.cells volume cell v c in
             let one : pending ((p, None) ∷ left) volume cell ≡ 0 + pending left volume cell = sum_by-cons (λ entry. one_if (begins_on volume cell entry.1)) (p, None) left in
             omega (arith, before, one);
-        lives = f.lives;
+        live_files = f.live_files;
         found = f.found;
         files = λ q id kind h. elim (put-file tree p q node.Dir id kind h) [ inl x ↦ absurd (not-file id kind x.1) | inr x ↦ f.files q id kind x ];
         alone = λ a b id same kind like h k r. elim (put-file tree p a node.Dir id kind h) [
@@ -245,7 +245,7 @@ module _ (mount : Mount) where
         fit = f.fit.1;
         root = f.root;
         mounts = f.mounts;
-        folders = f.folders;
+        working_directories = f.working_directories;
         trees = f.trees;
       }
     where
@@ -310,7 +310,7 @@ module _ (mount : Mount) where
       one (Some other) g = still-fits m p entry.0 begins other (less-apart p entry.0 (t-first _ (below_all path_cmp p left) below)) f g
 
   -- what a row that is bound leaves of the mounts, the folders and the trees
-  taken-same : (m : Namespace) (b : Backing) → ((after_taking m b).root ≡ m.root) × ((after_taking m b).mounts ≡ m.mounts) × ((after_taking m b).folders ≡ m.folders) × ((after_taking m b).trees ≡ m.trees)
+  taken-same : (m : Namespace) (b : Backing) → ((after_taking m b).root ≡ m.root) × ((after_taking m b).mounts ≡ m.mounts) × ((after_taking m b).working_directories ≡ m.working_directories) × ((after_taking m b).trees ≡ m.trees)
   taken-same m backing.Memory = (refl, refl, refl, refl)
   taken-same m (backing.Cell volume cell) = (refl, refl, refl, refl)
   taken-same m (backing.Device device) = (refl, refl, refl, refl)
@@ -323,12 +323,12 @@ module _ (mount : Mount) where
   -- a row that is bound, in the words of the tree that names it then
   used-more : (m : Namespace) (tree : Tree) (p : Path) (row other : ℕ) (life : LiveFile) (generations : List ℕ) (id : FileId) (kind : Kind) → 0 < row → 0 < other → id.row ≡ row → value_at path_cmp p tree ≡ None →
       ((at : ℕ) → 0 < at → is_some (life_at m at) ≡ true → IsUsed (InTree tree) m at) → (other - 1 ≡ row - 1) ⊎ (other - 1 ≢ row - 1) →
-      is_some (slice_index_or (slice_set m.lives (row - 1) (Some life)) (other - 1) None) ≡ true →
+      is_some (slice_index_or (slice_set m.live_files (row - 1) (Some life)) (other - 1) None) ≡ true →
       IsUsed (InTree (put path_cmp p (node.File id kind) tree)) (with_life m row (Some life) generations) other
   used-more m tree p row other life generations id kind l k same none used (inl e) h =
       inr (inr (record { path = p; id = id; kind = kind; there = at-put-here p (node.File id kind) tree; is = same ∙ omega (arith, e, l, k) }))
   used-more m tree p row other life generations id kind l k same none used (inr e) h =
-      renamed (used other k (ap is_some (sym (set-there m.lives (row - 1) (other - 1) (Some life) None e)) ∙ h))
+      renamed (used other k (ap is_some (sym (set-there m.live_files (row - 1) (other - 1) (Some life) None e)) ∙ h))
     where
       renamed : IsUsed (InTree tree) m other → IsUsed (InTree (put path_cmp p (node.File id kind) tree)) (with_life m row (Some life) generations) other
       renamed (inl linked) = inl linked
@@ -336,7 +336,7 @@ module _ (mount : Mount) where
       renamed (inr (inr at)) = inr (inr (in-tree tree p (node.File id kind) other none at))
 
   -- how many files a cell has, and how many are to come
-  cells-filled : (m : Namespace) (row : ℕ) (begins : Origin) (p : Path) (left : Content) (generations : List ℕ) → row - 1 < length m.lives → life_at m row ≡ None →
+  cells-filled : (m : Namespace) (row : ℕ) (begins : Origin) (p : Path) (left : Content) (generations : List ℕ) → row - 1 < length m.live_files → life_at m row ≡ None →
       ((volume : ℕ) → length (volume_at m volume).spare ≡ length (volume_at m volume).pages) →
       ((volume cell : ℕ) → volume < length m.volumes → cell < length (volume_at m volume).pages →
       cell_files m volume cell + pending ((p, Some begins) ∷ left) volume cell + one_if (slice_index_or (volume_at m volume).spare cell false) ≡ 1) →
@@ -383,7 +383,7 @@ module _ (mount : Mount) where
             omega (arith, bound, same, one, before, none, is)
       ]
 
-  devices-filled : (m : Namespace) (row : ℕ) (begins : Origin) (p : Path) (generations : List ℕ) → row - 1 < length m.lives → life_at m row ≡ None → FitsOrigin m p begins → DevicesPlaced m →
+  devices-filled : (m : Namespace) (row : ℕ) (begins : Origin) (p : Path) (generations : List ℕ) → row - 1 < length m.live_files → life_at m row ≡ None → FitsOrigin m p begins → DevicesPlaced m →
       DevicesPlaced (after_taking (with_life m row (Some (life_of begins)) generations) (origin_backing begins))
   devices-filled m row origin.Empty p generations l free f devices = absurd f
   devices-filled m row (origin.NewCell volume cell) p generations l free f devices = absurd f
@@ -431,7 +431,7 @@ module _ (mount : Mount) where
         row = free.counted;
         generation = set-here m.generations (row - 1) (generation_at m row + 1) 0 (subst (λ x. row - 1 < x) (sym f.rest.sizes.generations) free.small);
         life = subst (λ found. IsSomeAnd found (λ life. (life.kind ≡ kind_of mount.fs) × (life.mount ≡ mount.number)))
-            (sym (set-here m.lives (row - 1) (Some (life_of begins)) None (subst (λ x. row - 1 < x) (sym f.rest.sizes.lives) free.small))) (refl, refl);
+            (sym (set-here m.live_files (row - 1) (Some (life_of begins)) None (subst (λ x. row - 1 < x) (sym f.rest.sizes.live_files) free.small))) (refl, refl);
       } in
       alive-more t (origin_backing begins) other kind mount.number
       (subst (λ x. IsLive t other x mount.number) (file-kind (next_file m row) other (kind_of mount.fs) kind e)
@@ -451,22 +451,22 @@ module _ (mount : Mount) where
       let t = with_life m row (Some life) generations in
       let counted : file_count ((p, Some begins) ∷ left) ≡ 1 + file_count left = sum_by-cons (λ entry. one_if (is_some entry.1)) (p, Some begins) left in
       let room : 0 < free_count m = let before = f.room in omega (arith, counted, before) in
-      let free = some-free m f.rest.sizes.lives f.rest.sizes.generations room in
-      let within : row - 1 < length m.lives = subst (λ x. row - 1 < x) (sym f.rest.sizes.lives) free.small in
+      let free = some-free m f.rest.sizes.live_files f.rest.sizes.generations room in
+      let within : row - 1 < length m.live_files = subst (λ x. row - 1 < x) (sym f.rest.sizes.live_files) free.small in
       let same = taken-same t b in
       record {
         rest = rest-taken (InTree (put path_cmp p (node.File id (kind_of mount.fs)) tree)) t b (record {
           live = live-bound m row (Some life) free.free f.rest.live;
           used = λ other l h. used-more m tree p row other life generations id (kind_of mount.fs) free.counted l refl none f.rest.used (same-or-other (other - 1) (row - 1)) h;
           alone = f.rest.alone;
-          folders = folders-beside m (slice_set m.lives (row - 1) (Some life)) generations m.references m.volumes m.devices f.rest.folders;
+          working_directories = working_directories-beside m (slice_set m.live_files (row - 1) (Some life)) generations m.references m.volumes m.devices f.rest.working_directories;
           trees = f.rest.trees;
           roms = f.rest.roms;
           sizes = record {
-            lives = length-set m.lives (row - 1) (Some life) ∙ f.rest.sizes.lives;
+            live_files = length-set m.live_files (row - 1) (Some life) ∙ f.rest.sizes.live_files;
             generations = length-set m.generations (row - 1) _ ∙ f.rest.sizes.generations;
             trees = f.rest.sizes.trees;
-            folders = f.rest.sizes.folders;
+            working_directories = f.rest.sizes.working_directories;
             mounts = f.rest.sizes.mounts;
             references = f.rest.sizes.references;
           };
@@ -474,9 +474,9 @@ module _ (mount : Mount) where
         boxes = but-taken t b (but-life m row (Some life) generations (kind-fits m p begins f.fit.0) f.boxes);
         devices = devices-filled m row begins p generations within free.free f.fit.0 f.devices;
         cells = cells-filled m row begins p left generations within free.free f.boxes.spares f.cells b refl;
-        lives = lives-taken t b (lives-set m row (Some life) generations
+        live_files = live_files-taken t b (live_files-set m row (Some life) generations
             (λ other e. subst (λ x. IsSomeAnd (mount_numbered m x.mount) (λ y. fits_mount m x y ≡ true)) (same-some life other e)
-            (subst (λ found. IsSomeAnd found (λ y. fits_mount m life y ≡ true)) (sym f.found) (mount-fits m p begins f.fit.0))) f.lives);
+            (subst (λ found. IsSomeAnd found (λ y. fits_mount m life y ≡ true)) (sym f.found) (mount-fits m p begins f.fit.0))) f.live_files);
         found = taken-found t b mount.number ∙ f.found;
         files = λ q other kind h. elim (put-file tree p q (node.File id (kind_of mount.fs)) other kind h) [
           | inl x ↦ (
@@ -503,10 +503,10 @@ module _ (mount : Mount) where
         sorted = is_sorted-put path_cmp path_cmp_total p (node.File id (kind_of mount.fs)) tree f.sorted;
         small = put-small tree behind p (node.File id (kind_of mount.fs)) (Some begins) f.sorted f.small;
         order = subst (λ all. T (is_sorted path_cmp all)) (sym (append_assoc behind ((p, Some begins) ∷ []) left)) f.order;
-        room = let less = one-less m life f.rest.sizes.lives f.rest.sizes.generations room in let before = f.room in omega (arith, counted, less, before);
+        room = let less = one-less m life f.rest.sizes.live_files f.rest.sizes.generations room in let before = f.room in omega (arith, counted, less, before);
         fit = all-fit t p begins left (f.fit.0) (t-first _ (is_sorted path_cmp left) (later-sorted behind ((p, Some begins) ∷ left) f.order)) f.fit.1;
         root = same.0 ∙ f.root;
         mounts = same.1 ∙ f.mounts;
-        folders = same.2 ∙ f.folders;
+        working_directories = same.2 ∙ f.working_directories;
         trees = same.3 ∙ f.trees;
       }

@@ -11,7 +11,7 @@ use Rattle.vfs_model.specs.declared.namespace.Backing.{Backing}
 use Rattle.vfs_model.specs.declared.namespace.LiveFile.{LiveFile}
 use Rattle.vfs_model.specs.declared.namespace.Namespace.{Namespace}
 use Rattle.world_laws.proofs.Binding.{next_generations}
-use Rattle.world_laws.proofs.OpenKeeping.{FreeRow, free-at, taken-lives}
+use Rattle.world_laws.proofs.OpenKeeping.{FreeRow, free-at, taken-live_files}
 use Rattle.world_laws.proofs.Taking.{count-set, with_life}
 use Rattle.std.proofs.lemmas.Slice.Zip.{length-zip}
 use Rattle.std.specs.Prelude.{min}
@@ -39,43 +39,43 @@ length-mapped : {A : Type 0} (f : A → Bool) (xs : List A) → length (map f xs
 length-mapped f [] = refl
 length-mapped f (x ∷ xs) = ap suc (length-mapped f xs)
 
-pub rows-length : (n : Namespace) → length n.lives ≡ 1024 → length n.generations ≡ 1024 → length (free_rows n) ≡ 1024
-rows-length n lives generations =
-    length-mapped (λ row. is_free_row row.0 row.1) (zip n.lives n.generations) ∙ length-zip n.lives n.generations ∙ both lives generations
+pub rows-length : (n : Namespace) → length n.live_files ≡ 1024 → length n.generations ≡ 1024 → length (free_rows n) ≡ 1024
+rows-length n live_files generations =
+    length-mapped (λ row. is_free_row row.0 row.1) (zip n.live_files n.generations) ∙ length-zip n.live_files n.generations ∙ both live_files generations
   where
     both : {a b : ℕ} → a ≡ 1024 → b ≡ 1024 → min a b ≡ 1024
     both e f = omega (arith, e, f)
 
 -- a row is free where one of them is
-pub some-free : (n : Namespace) → length n.lives ≡ 1024 → length n.generations ≡ 1024 → 0 < free_count n → FreeRow n (least_free_row n)
-some-free n lives generations l =
+pub some-free : (n : Namespace) → length n.live_files ≡ 1024 → length n.generations ≡ 1024 → 0 < free_count n → FreeRow n (least_free_row n)
+some-free n live_files generations l =
     let at = position_or_len (λ free. free) (free_rows n) in
-    let small : at < 1024 = subst (λ x. at < x) (rows-length n lives generations) (first-passes (free_rows n) l) in
+    let small : at < 1024 = subst (λ x. at < x) (rows-length n live_files generations) (first-passes (free_rows n) l) in
     let place : least_free_row n - 1 ≡ at = omega arith in
     record {
       counted = omega arith;
       small = omega (arith, small);
-      free = ap (λ k. slice_index_or n.lives k None) place ∙ free-at n lives generations small;
+      free = ap (λ k. slice_index_or n.live_files k None) place ∙ free-at n live_files generations small;
     }
 
 taken-free : (m : Namespace) (b : Backing) → free_count (after_taking m b) ≡ free_count m
 taken-free m b =
-    let same = taken-lives m b in
-    ap (λ lives. count_by (λ free. free) (map (λ row. is_free_row row.0 row.1) (zip lives (after_taking m b).generations))) same.0
-    ∙ ap (λ generations. count_by (λ free. free) (map (λ row. is_free_row row.0 row.1) (zip m.lives generations))) same.1
+    let same = taken-live_files m b in
+    ap (λ live_files. count_by (λ free. free) (map (λ row. is_free_row row.0 row.1) (zip live_files (after_taking m b).generations))) same.0
+    ∙ ap (λ generations. count_by (λ free. free) (map (λ row. is_free_row row.0 row.1) (zip m.live_files generations))) same.1
 
 -- the least free row is bound
-pub one-less : (n : Namespace) (life : LiveFile) → length n.lives ≡ 1024 → length n.generations ≡ 1024 → 0 < free_count n → free_count (bind_row n (least_free_row n) life) + 1 ≡ free_count n
+pub one-less : (n : Namespace) (life : LiveFile) → length n.live_files ≡ 1024 → length n.generations ≡ 1024 → 0 < free_count n → free_count (bind_row n (least_free_row n) life) + 1 ≡ free_count n
 unfolding bind_row
-one-less n life lives generations l =
+one-less n life live_files generations l =
     let at = position_or_len (λ free. free) (free_rows n) in
     let row = least_free_row n in
     let place : row - 1 ≡ at = omega arith in
     let small : at < length (free_rows n) = first-passes (free_rows n) l in
     let taken : free_count (after_taking (with_life n row (Some life) (next_generations n row)) life.backing) ≡ free_count (with_life n row (Some life) (next_generations n row)) = taken-free _ life.backing in
     let set : free_rows (with_life n row (Some life) (next_generations n row)) ≡ slice_set (free_rows n) (row - 1) false =
-    ap (map (λ row. is_free_row row.0 row.1)) (zip-set n.lives n.generations (row - 1) (Some life) (generation_at n row + 1))
-    ∙ map-set (λ row. is_free_row row.0 row.1) (zip n.lives n.generations) (row - 1) (Some life, generation_at n row + 1) in
+    ap (map (λ row. is_free_row row.0 row.1)) (zip-set n.live_files n.generations (row - 1) (Some life) (generation_at n row + 1))
+    ∙ map-set (λ row. is_free_row row.0 row.1) (zip n.live_files n.generations) (row - 1) (Some life, generation_at n row + 1) in
     let counted : count_by (λ free. free) (slice_set (free_rows n) (row - 1) false) + one_if (slice_index_or (free_rows n) (row - 1) false) ≡ free_count n + 0 =
     count-set (λ free. free) (free_rows n) (row - 1) false false (subst (λ x. x < length (free_rows n)) (sym place) small) in
     let was : one_if (slice_index_or (free_rows n) (row - 1) false) ≡ 1 =

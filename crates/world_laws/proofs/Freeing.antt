@@ -12,8 +12,8 @@ use Rattle.vfs_model.specs.declared.namespace.Backing.{Backing}
 use Rattle.vfs_model.specs.declared.namespace.Backing.TheVariants as backing
 use Rattle.vfs_model.specs.declared.namespace.LiveFile.{LiveFile}
 use Rattle.vfs_model.specs.declared.namespace.Namespace.{Namespace}
-use Rattle.world_laws.proofs.Beside.{folders-beside}
-use Rattle.world_laws.proofs.Binding.{Rest, rest-beside, rest-stands, apart-cell, lives-cell, lives-set, out-here, out-other, own-cell, this-or-other}
+use Rattle.world_laws.proofs.Beside.{working_directories-beside}
+use Rattle.world_laws.proofs.Binding.{Rest, rest-beside, rest-stands, apart-cell, live_files-cell, live_files-set, out-here, out-other, own-cell, this-or-other}
 use Rattle.world_laws.proofs.Lists.{number-itself, other-number, same-or-other, set-here, set-there}
 use Rattle.world_laws.proofs.Standing.{Held, IsUsed, Linked, Nothing, Only, Stands, unused-not, used-again}
 use Rattle.world_laws.proofs.Taking.{BoxesBut, CellsPlaced, DevicesPlaced, boxes-all, boxes-but, but-cell, but-device, but-life, cell-files, cell-pages, count-set, spare-here, spare-other, with_life}
@@ -28,7 +28,7 @@ pub alive-freed : (n : Namespace) (row : ℕ) (id : FileId) (kind : Kind) (numbe
 alive-freed n row id kind number other live = record {
   row = live.row;
   generation = live.generation;
-  life = subst (λ x. IsSomeAnd x (λ life. (life.kind ≡ kind) × (life.mount ≡ number))) (sym (set-there n.lives (row - 1) (id.row - 1) None None other)) live.life;
+  life = subst (λ x. IsSomeAnd x (λ life. (life.kind ≡ kind) × (life.mount ≡ number))) (sym (set-there n.live_files (row - 1) (id.row - 1) None None other)) live.life;
 }
 
 rows-differ : (row other : ℕ) → 0 < row → 0 < other → other ≢ row → other - 1 ≢ row - 1
@@ -48,16 +48,16 @@ live-freed n row l unlinked unheld live = record {
       );
 }
 
-used-freed : (n : Namespace) (row other : ℕ) → row - 1 < length n.lives → 0 < row → 0 < other → (other - 1 ≡ row - 1) ⊎ (other - 1 ≢ row - 1) →
+used-freed : (n : Namespace) (row other : ℕ) → row - 1 < length n.live_files → 0 < row → 0 < other → (other - 1 ≡ row - 1) ⊎ (other - 1 ≢ row - 1) →
     ((at : ℕ) → 0 < at → is_some (life_at n at) ≡ true → IsUsed (Only row) n at) →
-    is_some (slice_index_or (slice_set n.lives (row - 1) None) (other - 1) None) ≡ true → IsUsed Nothing n other
+    is_some (slice_index_or (slice_set n.live_files (row - 1) None) (other - 1) None) ≡ true → IsUsed Nothing n other
 used-freed n row other within l m (inl e) used h =
-    let none : slice_index_or (slice_set n.lives (row - 1) None) (other - 1) None ≡ None =
-    ap (λ k. slice_index_or (slice_set n.lives (row - 1) None) k None) e ∙ set-here n.lives (row - 1) None None within in
-    let no : is_some (slice_index_or (slice_set n.lives (row - 1) None) (other - 1) None) ≡ false = ap is_some none in
+    let none : slice_index_or (slice_set n.live_files (row - 1) None) (other - 1) None ≡ None =
+    ap (λ k. slice_index_or (slice_set n.live_files (row - 1) None) k None) e ∙ set-here n.live_files (row - 1) None None within in
+    let no : is_some (slice_index_or (slice_set n.live_files (row - 1) None) (other - 1) None) ≡ false = ap is_some none in
     absurd (cc)
 used-freed n row other within l m (inr e) used h =
-    without (used other m (ap is_some (sym (set-there n.lives (row - 1) (other - 1) None None e)) ∙ h))
+    without (used other m (ap is_some (sym (set-there n.live_files (row - 1) (other - 1) None None e)) ∙ h))
   where
     without : IsUsed (Only row) n other → IsUsed Nothing n other
     without (inl linked) = inl linked
@@ -69,24 +69,24 @@ pub backed-by : (test : Backing → Bool) (found : Option LiveFile) → test bac
 backed-by test None h = sym h
 backed-by test (Some life) h = refl
 
-pub cells-freed : (n : Namespace) (row volume cell : ℕ) → row - 1 < length n.lives →
+pub cells-freed : (n : Namespace) (row volume cell : ℕ) → row - 1 < length n.live_files →
     cell_files (without_life n row) volume cell + one_if (lies_on_cell volume cell (backing_of (life_at n row))) ≡ cell_files n volume cell
 cells-freed n row volume cell l =
-    let counted = count-set (is_backed_by (lies_on_cell volume cell)) n.lives (row - 1) None None l in
+    let counted = count-set (is_backed_by (lies_on_cell volume cell)) n.live_files (row - 1) None None l in
     let was : one_if (is_backed_by (lies_on_cell volume cell) (life_at n row)) ≡ one_if (lies_on_cell volume cell (backing_of (life_at n row))) =
     ap one_if (backed-by (lies_on_cell volume cell) (life_at n row) refl) in
     omega (arith, counted, was)
 
-pub devices-freed : (n : Namespace) (row device : ℕ) → row - 1 < length n.lives →
-    count_by (is_backed_by (lies_on_device device)) (slice_set n.lives (row - 1) None) + one_if (lies_on_device device (backing_of (life_at n row))) ≡
-    count_by (is_backed_by (lies_on_device device)) n.lives
+pub devices-freed : (n : Namespace) (row device : ℕ) → row - 1 < length n.live_files →
+    count_by (is_backed_by (lies_on_device device)) (slice_set n.live_files (row - 1) None) + one_if (lies_on_device device (backing_of (life_at n row))) ≡
+    count_by (is_backed_by (lies_on_device device)) n.live_files
 devices-freed n row device l =
-    let counted = count-set (is_backed_by (lies_on_device device)) n.lives (row - 1) None None l in
+    let counted = count-set (is_backed_by (lies_on_device device)) n.live_files (row - 1) None None l in
     let was : one_if (is_backed_by (lies_on_device device) (life_at n row)) ≡ one_if (lies_on_device device (backing_of (life_at n row))) =
     ap one_if (backed-by (lies_on_device device) (life_at n row) refl) in
     omega (arith, counted, was)
 
-cells-dropped : (n : Namespace) (row : ℕ) → row - 1 < length n.lives → ((volume : ℕ) → length (volume_at n volume).spare ≡ length (volume_at n volume).pages) → CellsPlaced n →
+cells-dropped : (n : Namespace) (row : ℕ) → row - 1 < length n.live_files → ((volume : ℕ) → length (volume_at n volume).spare ≡ length (volume_at n volume).pages) → CellsPlaced n →
     (b : Backing) → backing_of (life_at n row) ≡ b → CellsPlaced (after_end (without_life n row) (end_of_dropped b))
 cells-dropped n row l spares cells backing.Memory e volume cell v c =
     let freed = cells-freed n row volume cell l in
@@ -121,7 +121,7 @@ cells-dropped n row l spares cells (backing.Cell w d) e volume cell v c =
           omega (arith, freed, same, before, none, is)
     ]
 
-devices-dropped : (n : Namespace) (row : ℕ) → row - 1 < length n.lives → DevicesPlaced n →
+devices-dropped : (n : Namespace) (row : ℕ) → row - 1 < length n.live_files → DevicesPlaced n →
     (b : Backing) → backing_of (life_at n row) ≡ b → DevicesPlaced (after_end (without_life n row) (end_of_dropped b))
 devices-dropped n row l devices backing.Memory e device d =
     let freed = devices-freed n row device l in
@@ -161,12 +161,12 @@ but-dropped m backing.Memory boxes = boxes
 but-dropped m (backing.Cell volume cell) boxes = but-cell true m volume cell boxes
 but-dropped m (backing.Device device) boxes = but-device false m device boxes
 
-lives-dropped : (m : Namespace) (b : Backing) → LivesFit m → LivesFit (after_end m (end_of_dropped b))
-lives-dropped m backing.Memory fit = fit
-lives-dropped m (backing.Cell volume cell) fit = lives-cell true m volume cell fit
-lives-dropped m (backing.Device device) fit = fit
+live_files-dropped : (m : Namespace) (b : Backing) → LivesFit m → LivesFit (after_end m (end_of_dropped b))
+live_files-dropped m backing.Memory fit = fit
+live_files-dropped m (backing.Cell volume cell) fit = live_files-cell true m volume cell fit
+live_files-dropped m (backing.Device device) fit = fit
 
-boxes-dropped : (n : Namespace) (row : ℕ) → row - 1 < length n.lives → BoxesPlaced n →
+boxes-dropped : (n : Namespace) (row : ℕ) → row - 1 < length n.live_files → BoxesPlaced n →
     BoxesPlaced (after_end (without_life n row) (end_of_dropped (backing_of (life_at n row))))
 boxes-dropped n row l boxes =
     boxes-all _
@@ -183,26 +183,26 @@ rest-dropped Excused m (backing.Device device) s = rest-beside Excused m m.volum
 pub free-stands : (n : Namespace) (row : ℕ) → 0 < row → row - 1 < 1024 → (is_linked n row || is_held n row) ≡ false → Stands (Only row) n →
     Stands Nothing (after_end (without_life n row) (end_of_dropped (backing_of (life_at n row))))
 free-stands n row l small unused s =
-    let within : row - 1 < length n.lives = subst (λ x. row - 1 < x) (sym s.sizes.lives) small in
+    let within : row - 1 < length n.live_files = subst (λ x. row - 1 < x) (sym s.sizes.live_files) small in
     rest-stands Nothing _
     (rest-dropped Nothing (without_life n row) (backing_of (life_at n row)) (record {
       live = live-freed n row l (λ linked u. unused-not Nothing n row unused (inl linked)) (λ held u. unused-not Nothing n row unused (inr (inl held))) s.live;
       used = λ other m h. used-freed n row other within l m (same-or-other (other - 1) (row - 1)) s.used h;
       alone = s.alone;
-      folders = folders-beside n (slice_set n.lives (row - 1) None) n.generations n.references n.volumes n.devices s.folders;
+      working_directories = working_directories-beside n (slice_set n.live_files (row - 1) None) n.generations n.references n.volumes n.devices s.working_directories;
       trees = s.trees;
       roms = s.roms;
       sizes = record {
-        lives = length-set n.lives (row - 1) None ∙ s.sizes.lives;
+        live_files = length-set n.live_files (row - 1) None ∙ s.sizes.live_files;
         generations = s.sizes.generations;
         trees = s.sizes.trees;
-        folders = s.sizes.folders;
+        working_directories = s.sizes.working_directories;
         mounts = s.sizes.mounts;
         references = s.sizes.references;
       };
     }))
     (boxes-dropped n row within s.boxes)
-    (lives-dropped (without_life n row) (backing_of (life_at n row)) (lives-set n row None n.generations (λ life e. absurd (cc)) s.lives))
+    (live_files-dropped (without_life n row) (backing_of (life_at n row)) (live_files-set n row None n.generations (λ life e. absurd (cc)) s.live_files))
 
 unused-by : (n : Namespace) (row : ℕ) (named : Bool) → (is_linked n row || is_held n row) ≡ named → 0 < row → row - 1 < 1024 → Stands (Only row) n →
     Stands Nothing (if named then record { next = n; changes = [] } else free_row end_of_dropped (record { next = n; changes = [] }) row).next
@@ -211,10 +211,10 @@ unused-by n row true e l small s = record {
   live = s.live;
   used = λ other m h. used-again n s.trees other row e (s.used other m h);
   alone = s.alone;
-  folders = s.folders;
+  working_directories = s.working_directories;
   trees = s.trees;
   boxes = s.boxes;
-  lives = s.lives;
+  live_files = s.live_files;
   roms = s.roms;
   sizes = s.sizes;
 }

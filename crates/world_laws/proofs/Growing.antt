@@ -27,7 +27,7 @@ pub record MayStand (n : Namespace) (number : ℕ) (tree : Tree) : Type 0 where
       value_at path_cmp q tree ≡ Some (node.File same like) → id.row ≡ same.row → p ≡ q
   pub across : (other : ℕ) (p q : Path) (id same : FileId) (kind like : Kind) → other ≢ number → value_at path_cmp p tree ≡ Some (node.File id kind) →
       value_at path_cmp q (tree_of n other) ≡ Some (node.File same like) → id.row ≢ same.row
-  pub folders : (k : ℕ) → is_folder (with_tree n number tree) (folder_of n k) ≡ true
+  pub working_directories : (k : ℕ) → is_folder (with_tree n number tree) (folder_of n k) ≡ true
   pub points : (place : ℕ) (d : Mount) → place < length n.mounts →
       let point = (slice_index_or n.mounts place d).point in
       let rest : Path = drop (length (covered_mount n point).point) point in
@@ -79,9 +79,9 @@ live-changed n number tree may live = record {
   held = λ place reference h. (alive-beside n (with_tree n number tree) reference.file reference.kind reference.mount (live.held place reference h).0, (live.held place reference h).1);
 }
 
-folders-changed : (n : Namespace) (number : ℕ) (tree : Tree) → MayStand n number tree → FoldersStand n → FoldersStand (with_tree n number tree)
-folders-changed n number tree may f = record {
-  folders = may.folders;
+working_directories-changed : (n : Namespace) (number : ℕ) (tree : Tree) → MayStand n number tree → FoldersStand n → FoldersStand (with_tree n number tree)
+working_directories-changed n number tree may f = record {
+  working_directories = may.working_directories;
   short = f.short;
   root = f.root;
   points = λ place d l.
@@ -100,22 +100,22 @@ folders-changed n number tree may f = record {
 
 -- another tree stands at a number
 pub tree-stands : (Before After : ℕ → Type 0) (n : Namespace) (number : ℕ) (tree : Tree) → MayStand n number tree →
-    ((row : ℕ) → 0 < row → is_some (slice_index_or n.lives (row - 1) None) ≡ true → IsUsed Before n row → IsUsed After (with_tree n number tree) row) →
+    ((row : ℕ) → 0 < row → is_some (slice_index_or n.live_files (row - 1) None) ≡ true → IsUsed Before n row → IsUsed After (with_tree n number tree) row) →
     Stands Before n → Stands After (with_tree n number tree)
 tree-stands Before After n number tree may used s = record {
   live = live-changed n number tree may s.live;
   used = λ row l h. used row l h (s.used row l h);
   alone = alone-changed n number tree may s.sizes.trees s.alone;
-  folders = folders-changed n number tree may s.folders;
+  working_directories = working_directories-changed n number tree may s.working_directories;
   trees = λ other. tree-set n number other tree (IsClosedTree is_dir_node) (λ e. may.closed) (s.trees other);
-  boxes = boxes-beside n (slice_set n.trees number tree) n.folders n.references n.generations s.boxes;
-  lives = s.lives;
+  boxes = boxes-beside n (slice_set n.trees number tree) n.working_directories n.references n.generations s.boxes;
+  live_files = s.live_files;
   roms = s.roms;
   sizes = record {
-    lives = s.sizes.lives;
+    live_files = s.sizes.live_files;
     generations = s.sizes.generations;
     trees = length-set n.trees number tree ∙ s.sizes.trees;
-    folders = s.sizes.folders;
+    working_directories = s.sizes.working_directories;
     mounts = s.sizes.mounts;
     references = s.sizes.references;
   };

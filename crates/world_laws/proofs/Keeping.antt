@@ -19,7 +19,7 @@ use Rattle.vfs_model.specs.declared.namespace.End.TheVariants as end
 use Rattle.vfs_model.specs.declared.namespace.LiveFile.{LiveFile}
 use Rattle.vfs_model.specs.declared.namespace.Namespace.{Namespace}
 use Rattle.vfs_model.specs.declared.namespace.RowChange.{RowChange}
-use Rattle.vfs_model.specs.declared.world.World.{World}
+use Rattle.vfs_model.specs.declared.world.WorldState.{WorldState}
 use Rattle.world_laws.proofs.Agreeing.{Agrees, Ends, agrees-beside, agrees-ended, free-agrees}
 use Rattle.world_laws.proofs.Freeing.{unused-stands, without_life}
 use Rattle.world_laws.proofs.Lists.{some-within}
@@ -31,7 +31,7 @@ use Rattle.world_laws.proofs.Taking.{cell-pages}
 pub record Keeps (n next : Namespace) (changes : List RowChange) : Type 0 where
   pub stands : Stands Nothing next
   pub pages : (volume cell : ℕ) → cell_capacity next volume cell ≡ cell_capacity n volume cell
-  pub files : (v : World) → Agrees v n → Agrees (fold change_row v changes) next
+  pub files : (v : WorldState) → Agrees v n → Agrees (fold change_row v changes) next
 
 abbrev pub Kept : Namespace → Result NamespaceOutcome Errno → Type 0
 Kept n (Ok outcome) = Keeps n outcome.next outcome.changes
@@ -54,20 +54,20 @@ pub same-kept : (n : Namespace) → Stands Nothing n → Keeps n n []
 same-kept n s = record { stands = s; pages = λ volume cell. refl; files = λ v a. a }
 
 -- a step that changes neither lives nor volumes
-pub names-kept : (n next : Namespace) → Stands Nothing next → n.lives ≡ next.lives → n.generations ≡ next.generations → next.volumes ≡ n.volumes → Keeps n next []
-names-kept n next s lives generations volumes = record {
+pub names-kept : (n next : Namespace) → Stands Nothing next → n.live_files ≡ next.live_files → n.generations ≡ next.generations → next.volumes ≡ n.volumes → Keeps n next []
+names-kept n next s live_files generations volumes = record {
   stands = s;
   pages = λ volume cell. ap (λ all. cell_capacity (record n { volumes = all }) volume cell) volumes;
-  files = λ v a. agrees-beside v n next lives generations a;
+  files = λ v a. agrees-beside v n next live_files generations a;
 }
 
 -- the row of a live file is one of the list
-pub live-row : (n : Namespace) (id : FileId) (kind : Kind) (number : ℕ) → length n.lives ≡ 1024 → IsLive n id kind number → (0 < id.row) × (id.row - 1 < 1024)
+pub live-row : (n : Namespace) (id : FileId) (kind : Kind) (number : ℕ) → length n.live_files ≡ 1024 → IsLive n id kind number → (0 < id.row) × (id.row - 1 < 1024)
 live-row n id kind number e live = (live.row, subst (λ x. id.row - 1 < x) e (within (life_at n id.row) refl live.life))
   where
-    within : (found : Option LiveFile) → life_at n id.row ≡ found → IsSomeAnd found (λ life. (life.kind ≡ kind) × (life.mount ≡ number)) → id.row - 1 < length n.lives
+    within : (found : Option LiveFile) → life_at n id.row ≡ found → IsSomeAnd found (λ life. (life.kind ≡ kind) × (life.mount ≡ number)) → id.row - 1 < length n.live_files
     within None h x = absurd x
-    within (Some life) h x = some-within n.lives (id.row - 1) life h
+    within (Some life) h x = some-within n.live_files (id.row - 1) life h
 
 end-pages : (m : Namespace) (e : End) (volume cell : ℕ) → cell_capacity (after_end m e) volume cell ≡ cell_capacity m volume cell
 end-pages m end.Nothing volume cell = refl
@@ -80,7 +80,7 @@ dropped-ends backing.Memory = tt
 dropped-ends (backing.Cell volume cell) = tt
 dropped-ends (backing.Device device) = tt
 
-drop-files : (m : Namespace) (row : ℕ) (named : Bool) → row - 1 < 1024 → length m.lives ≡ 1024 → (v : World) → Agrees v m →
+drop-files : (m : Namespace) (row : ℕ) (named : Bool) → row - 1 < 1024 → length m.live_files ≡ 1024 → (v : WorldState) → Agrees v m →
     let rows = if named then record { next = m; changes = [] } else free_row end_of_dropped (record { next = m; changes = [] }) row in
     Agrees (fold change_row v rows.changes) rows.next
 unfolding free_row
@@ -95,13 +95,13 @@ drop-pages m row true volume cell = refl
 drop-pages m row false volume cell = end-pages (without_life m row) (end_of_dropped (backing_of (life_at m row))) volume cell
 
 -- a name or a reference of a row's file has gone, and the file is freed where nothing names it any more
-pub lost-kept : (n m : Namespace) (row : ℕ) → 0 < row → row - 1 < 1024 → Stands (Only row) m → n.lives ≡ m.lives → n.generations ≡ m.generations → m.volumes ≡ n.volumes →
+pub lost-kept : (n m : Namespace) (row : ℕ) → 0 < row → row - 1 < 1024 → Stands (Only row) m → n.live_files ≡ m.live_files → n.generations ≡ m.generations → m.volumes ≡ n.volumes →
     Keeps n (free_if_unused m row).next (free_if_unused m row).changes
 unfolding free_if_unused
-lost-kept n m row l small s lives generations volumes = record {
+lost-kept n m row l small s live_files generations volumes = record {
   stands = unused-stands m row l small s;
   pages = λ volume cell. drop-pages m row (is_linked m row || is_held m row) volume cell ∙ ap (λ all. cell_capacity (record n { volumes = all }) volume cell) volumes;
-  files = λ v a. drop-files m row (is_linked m row || is_held m row) small s.sizes.lives v (agrees-beside v n m lives generations a);
+  files = λ v a. drop-files m row (is_linked m row || is_held m row) small s.sizes.live_files v (agrees-beside v n m live_files generations a);
 }
 
 -- what is there and no file is a folder

@@ -139,48 +139,48 @@ unique-count test (e ∷ tree) sorted one =
 
 -- the rows of a mount, from a place of the list of lives on
 abbrev pub rows_from : ℕ → ℕ → List (Option LiveFile) → List ℕ
-rows_from number from lives = map (λ row. row.0) (filter (λ row. is_of_mount number row.1) (enumerate_from from lives))
+rows_from number from live_files = map (λ row. row.0) (filter (λ row. is_of_mount number row.1) (enumerate_from from live_files))
 
-row-cons : (number from : ℕ) (life : Option LiveFile) (lives : List (Option LiveFile)) (b : Bool) → is_of_mount number life ≡ b →
-    rows_from number from (life ∷ lives) ≡ (if b then from ∷ rows_from number (from + 1) lives else rows_from number (from + 1) lives)
-row-cons number from life lives true e =
-    ap (λ b. map (λ row. row.0) (if b then (from, life) ∷ filter (λ row. is_of_mount number row.1) (enumerate_from (from + 1) lives) else filter (λ row. is_of_mount number row.1) (enumerate_from (from + 1) lives))) e
-row-cons number from life lives false e =
-    ap (λ b. map (λ row. row.0) (if b then (from, life) ∷ filter (λ row. is_of_mount number row.1) (enumerate_from (from + 1) lives) else filter (λ row. is_of_mount number row.1) (enumerate_from (from + 1) lives))) e
+row-cons : (number from : ℕ) (life : Option LiveFile) (live_files : List (Option LiveFile)) (b : Bool) → is_of_mount number life ≡ b →
+    rows_from number from (life ∷ live_files) ≡ (if b then from ∷ rows_from number (from + 1) live_files else rows_from number (from + 1) live_files)
+row-cons number from life live_files true e =
+    ap (λ b. map (λ row. row.0) (if b then (from, life) ∷ filter (λ row. is_of_mount number row.1) (enumerate_from (from + 1) live_files) else filter (λ row. is_of_mount number row.1) (enumerate_from (from + 1) live_files))) e
+row-cons number from life live_files false e =
+    ap (λ b. map (λ row. row.0) (if b then (from, life) ∷ filter (λ row. is_of_mount number row.1) (enumerate_from (from + 1) live_files) else filter (λ row. is_of_mount number row.1) (enumerate_from (from + 1) live_files))) e
 
-rows-above : (number from row : ℕ) (lives : List (Option LiveFile)) → row < from → AllAbove row (rows_from number from lives)
+rows-above : (number from row : ℕ) (live_files : List (Option LiveFile)) → row < from → AllAbove row (rows_from number from live_files)
 rows-above number from row [] l = tt
-rows-above number from row (life ∷ lives) l = at (is_of_mount number life) refl (rows-above number (from + 1) row lives (omega (arith, l)))
+rows-above number from row (life ∷ live_files) l = at (is_of_mount number life) refl (rows-above number (from + 1) row live_files (omega (arith, l)))
   where
-    at : (b : Bool) → is_of_mount number life ≡ b → AllAbove row (rows_from number (from + 1) lives) → AllAbove row (rows_from number from (life ∷ lives))
-    at true e later = subst (AllAbove row) (sym (row-cons number from life lives true e)) (l, later)
-    at false e later = subst (AllAbove row) (sym (row-cons number from life lives false e)) later
+    at : (b : Bool) → is_of_mount number life ≡ b → AllAbove row (rows_from number (from + 1) live_files) → AllAbove row (rows_from number from (life ∷ live_files))
+    at true e later = subst (AllAbove row) (sym (row-cons number from life live_files true e)) (l, later)
+    at false e later = subst (AllAbove row) (sym (row-cons number from life live_files false e)) later
 
-pub rows-left : (number from : ℕ) (m : Namespace) (lives : List (Option LiveFile)) → 0 < from → (from - 1) + length lives ≤ 1024 →
-    ((k : ℕ) → k < length lives → life_at m (from + k) ≡ slice_index_or lives k None) → RowsLeft number m (rows_from number from lives)
+pub rows-left : (number from : ℕ) (m : Namespace) (live_files : List (Option LiveFile)) → 0 < from → (from - 1) + length live_files ≤ 1024 →
+    ((k : ℕ) → k < length live_files → life_at m (from + k) ≡ slice_index_or live_files k None) → RowsLeft number m (rows_from number from live_files)
 rows-left number from m [] l most h = tt
-rows-left number from m (life ∷ lives) l most h =
-    at (is_of_mount number life) refl (rows-left number (from + 1) m lives (omega arith) (omega (arith, most, l))
+rows-left number from m (life ∷ live_files) l most h =
+    at (is_of_mount number life) refl (rows-left number (from + 1) m live_files (omega arith) (omega (arith, most, l))
     (λ k s. ap (life_at m) (omega arith) ∙ h (suc k) (omega (arith, s))))
   where
-    at : (b : Bool) → is_of_mount number life ≡ b → RowsLeft number m (rows_from number (from + 1) lives) → RowsLeft number m (rows_from number from (life ∷ lives))
-    at false e later = subst (RowsLeft number m) (sym (row-cons number from life lives false e)) later
-    at true e later = subst (RowsLeft number m) (sym (row-cons number from life lives true e)) (
+    at : (b : Bool) → is_of_mount number life ≡ b → RowsLeft number m (rows_from number (from + 1) live_files) → RowsLeft number m (rows_from number from (life ∷ live_files))
+    at false e later = subst (RowsLeft number m) (sym (row-cons number from life live_files false e)) later
+    at true e later = subst (RowsLeft number m) (sym (row-cons number from life live_files true e)) (
       l,
       omega (arith, most, l),
       ap (λ k. is_of_mount number (life_at m k)) (omega arith) ∙ ap (is_of_mount number) (h 0 (omega arith)) ∙ e,
-      rows-above number (from + 1) from lives (omega arith),
+      rows-above number (from + 1) from live_files (omega arith),
       later,
     )
 
-pub rows-in : (number from k : ℕ) (lives : List (Option LiveFile)) → k < length lives → is_of_mount number (slice_index_or lives k None) ≡ true → InRows (rows_from number from lives) (from + k)
+pub rows-in : (number from k : ℕ) (live_files : List (Option LiveFile)) → k < length live_files → is_of_mount number (slice_index_or live_files k None) ≡ true → InRows (rows_from number from live_files) (from + k)
 rows-in number from k [] l h = absurd (omega (arith, l))
-rows-in number from zero (life ∷ lives) l h = subst (λ rows. InRows rows (from + 0)) (sym (row-cons number from life lives true h)) (inl (omega arith))
-rows-in number from (suc k) (life ∷ lives) l h = at (is_of_mount number life) refl (subst (InRows (rows_from number (from + 1) lives)) (omega arith) (rows-in number (from + 1) k lives (omega (arith, l)) h))
+rows-in number from zero (life ∷ live_files) l h = subst (λ rows. InRows rows (from + 0)) (sym (row-cons number from life live_files true h)) (inl (omega arith))
+rows-in number from (suc k) (life ∷ live_files) l h = at (is_of_mount number life) refl (subst (InRows (rows_from number (from + 1) live_files)) (omega arith) (rows-in number (from + 1) k live_files (omega (arith, l)) h))
   where
-    at : (b : Bool) → is_of_mount number life ≡ b → InRows (rows_from number (from + 1) lives) (from + suc k) → InRows (rows_from number from (life ∷ lives)) (from + suc k)
-    at true e later = subst (λ rows. InRows rows (from + suc k)) (sym (row-cons number from life lives true e)) (inr later)
-    at false e later = subst (λ rows. InRows rows (from + suc k)) (sym (row-cons number from life lives false e)) later
+    at : (b : Bool) → is_of_mount number life ≡ b → InRows (rows_from number (from + 1) live_files) (from + suc k) → InRows (rows_from number from (life ∷ live_files)) (from + suc k)
+    at true e later = subst (λ rows. InRows rows (from + suc k)) (sym (row-cons number from life live_files true e)) (inr later)
+    at false e later = subst (λ rows. InRows rows (from + suc k)) (sym (row-cons number from life live_files false e)) later
 
 pub in-left : (number : ℕ) (m : Namespace) (rows : List ℕ) (row : ℕ) → RowsLeft number m rows → InRows rows row → (0 < row) × (row - 1 < 1024) × (is_of_mount number (life_at m row) ≡ true)
 in-left number m [] row left i = absurd i

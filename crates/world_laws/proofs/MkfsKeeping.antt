@@ -64,14 +64,14 @@ module _ (n : Namespace) (name : List ℕ) (s : Stands Nothing n) (off : is_moun
 
       by : (x : Option LiveFile) → life_at n row ≡ x → is_backed_by (lies_on_cell place cell) x ≡ true → ⊥
       by None e k = absurd (cc)
-      by (Some life) e k = found life (mount_numbered n life.mount) refl e (on-cell place cell life.backing k) (s.lives row life e)
+      by (Some life) e k = found life (mount_numbered n life.mount) refl e (on-cell place cell life.backing k) (s.live_files row life e)
 
-  none-lives : place < length n.volumes → (cell : ℕ) → count_by (is_backed_by (lies_on_cell place cell)) n.lives ≡ 0
-  none-lives l cell = none-count (is_backed_by (lies_on_cell place cell)) n.lives (elim (true-or-false (list_any (is_backed_by (lies_on_cell place cell)) n.lives)) [
+  none-live_files : place < length n.volumes → (cell : ℕ) → count_by (is_backed_by (lies_on_cell place cell)) n.live_files ≡ 0
+  none-live_files l cell = none-count (is_backed_by (lies_on_cell place cell)) n.live_files (elim (true-or-false (list_any (is_backed_by (lies_on_cell place cell)) n.live_files)) [
     | inr h ↦ h
     | inl h ↦
-        let at = any-place (is_backed_by (lies_on_cell place cell)) n.lives None h in
-        absurd (no-life l cell (at.place + 1) (ap (λ k. is_backed_by (lies_on_cell place cell) (slice_index_or n.lives k None)) (omega arith) ∙ at.holds))
+        let at = any-place (is_backed_by (lies_on_cell place cell)) n.live_files None h in
+        absurd (no-life l cell (at.place + 1) (ap (λ k. is_backed_by (lies_on_cell place cell) (slice_index_or n.live_files k None)) (omega arith) ∙ at.holds))
   ])
 
   abbrev blank_spare : List Bool
@@ -115,8 +115,8 @@ module _ (n : Namespace) (name : List ℕ) (s : Stands Nothing n) (off : is_moun
       by (backing.Device device) = refl
       by (backing.Cell volume cell) = ap (λ x. same_kind life.kind (kind_of m.fs) && (volume == x)) (format-named m.source)
 
-  format-lives : LivesFit (format_volume n (volume_named n name))
-  format-lives row life h = by (mount_numbered n life.mount) (s.lives row life h)
+  format-live_files : LivesFit (format_volume n (volume_named n name))
+  format-live_files row life h = by (mount_numbered n life.mount) (s.live_files row life h)
     where
       by : (found : Option Mount) → IsSomeAnd found (λ m. fits_mount n life m ≡ true) → IsSomeAnd found (λ m. fits_mount (format_volume n (volume_named n name)) life m ≡ true)
       by None k = k
@@ -141,9 +141,9 @@ module _ (n : Namespace) (name : List ℕ) (s : Stands Nothing n) (off : is_moun
             let kept : count_by (λ entry. is_kept_on cell entry.1) (volume_at (format_volume n (volume_named n name)) volume).kept ≡ 0 = ap (λ x. count_by (λ entry. is_kept_on cell entry.1) x.kept) is in
             let spare : one_if (slice_index_or (volume_at (format_volume n (volume_named n name)) volume).spare cell false) ≡ 1 =
             ap (λ x. one_if (slice_index_or x.spare cell false)) is ∙ ap one_if (get_or-replicate (length (volume_at n (volume_named n name)).pages) cell true false (subst (λ x. cell < length (volume_at n x).pages) e inside)) in
-            let lives = ap (λ x. count_by (is_backed_by (lies_on_cell x cell)) n.lives) e in
-            let none = none-lives own cell in
-            omega (arith, kept, spare, lives, none)
+            let live_files = ap (λ x. count_by (is_backed_by (lies_on_cell x cell)) n.live_files) e in
+            let none = none-live_files own cell in
+            omega (arith, kept, spare, live_files, none)
       ]
 
   format-stands : Stands Nothing (format_volume n (volume_named n name))
@@ -170,7 +170,7 @@ module _ (n : Namespace) (name : List ℕ) (s : Stands Nothing n) (off : is_moun
             | inr h ↦ inr (format-named _ ∙ ap (volume_named n) (format-name u) ∙ h)
           ]
         ];
-      }) format-lives
+      }) format-live_files
 
 pub mkfs-kept : (n : Namespace) (name : List ℕ) → Stands Nothing n → Kept n (mkfs_step n name)
 unfolding mkfs_step

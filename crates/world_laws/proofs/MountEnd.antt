@@ -76,7 +76,7 @@ module _ (n : Namespace) (mount : Mount) (s : Stands Nothing n) (may : MayMount 
 
   -- the parts of the namespace that taking the kept names leaves
   base-same : (f : FsType) → ((without_kept (with_one n mount) f mount.source).trees ≡ n.trees) × ((without_kept (with_one n mount) f mount.source).mounts ≡ n.mounts ++ mount ∷ [])
-      × ((without_kept (with_one n mount) f mount.source).folders ≡ n.folders) × ((without_kept (with_one n mount) f mount.source).lives ≡ n.lives)
+      × ((without_kept (with_one n mount) f mount.source).working_directories ≡ n.working_directories) × ((without_kept (with_one n mount) f mount.source).live_files ≡ n.live_files)
       × ((without_kept (with_one n mount) f mount.source).generations ≡ n.generations)
   base-same fs.Tmp = (refl, refl, refl, refl, refl)
   base-same fs.Rom = (refl, refl, refl, refl, refl)
@@ -97,7 +97,7 @@ module _ (n : Namespace) (mount : Mount) (s : Stands Nothing n) (may : MayMount 
 
   last-stands : Stands (InTree (all.final)) (all.last)
   last-stands = rest-stands (InTree (all.final)) (all.last) (all.fill.rest)
-      (boxes-all (all.last) (λ volume cell v c. let before = all.fill.cells volume cell v c in omega (arith, before)) (all.fill.devices) (all.fill.boxes)) (all.fill.lives)
+      (boxes-all (all.last) (λ volume cell v c. let before = all.fill.cells volume cell v c in omega (arith, before)) (all.fill.devices) (all.fill.boxes)) (all.fill.live_files)
 
   own-mount-is : IsMount (all.last) mount
   own-mount-is = let found = found-place (λ x. x.number == mount.number) (all_mounts (all.last)) mount (all.fill.found) in record { place = found.0; within = found.1; is = found.2 }
@@ -115,19 +115,19 @@ module _ (n : Namespace) (mount : Mount) (s : Stands Nothing n) (may : MayMount 
     bounded = let small = all.fill.small in let most = begins.tree.bounded in omega (arith, small, most);
   }
 
-  folders-away : (k : ℕ) → (covering_mount (all.last) (folder_of (all.last) k)).number ≢ mount.number
-  folders-away k e =
+  working_directories-away : (k : ℕ) → (covering_mount (all.last) (folder_of (all.last) k)).number ≢ mount.number
+  working_directories-away k e =
       let m = covering_mount (all.last) (folder_of (all.last) k) in
-      let f = all.fill.rest.folders in
+      let f = all.fill.rest.working_directories in
       let same : m ≡ mount = one-number (all.last) m mount f (covering-is (all.last) (folder_of (all.last) k) f) own-mount-is e in
       let up : is_prefix mount.point (folder_of (all.last) k) ≡ true = subst (λ x. is_prefix x.point (folder_of (all.last) k) ≡ true) same (covers-prefix (all.last) (folder_of (all.last) k) f) in
-      let folder : folder_of (all.last) k ≡ folder_of n k = ap (λ folders. slice_index_or folders (k - 1) []) (all.fill.folders ∙ (base-same mount.fs).2) in
+      let folder : folder_of (all.last) k ≡ folder_of n k = ap (λ working_directories. slice_index_or working_directories (k - 1) []) (all.fill.working_directories ∙ (base-same mount.fs).2) in
       let none = ap (is_prefix mount.point) folder ∙ away k in
       absurd (cc)
 
   no-point : (place : ℕ) (d : Mount) → place < length (all.last).mounts → (covered_mount (all.last) (slice_index_or (all.last).mounts place d).point).number ≢ mount.number
   no-point place d l e =
-      let f = all.fill.rest.folders in
+      let f = all.fill.rest.working_directories in
       let q = (slice_index_or (all.last).mounts place d).point in
       let c = point-covers (all.last) place d f l in
       let same : covered_mount (all.last) q ≡ mount = one-number (all.last) (covered_mount (all.last) q) mount f c.mount own-mount-is e in
@@ -148,7 +148,7 @@ module _ (n : Namespace) (mount : Mount) (s : Stands Nothing n) (may : MayMount 
     linked = λ path id kind h. (all.fill.files path id kind h).0;
     within = all.fill.alone;
     across = λ other p q id same kind like e h k r. (all.fill.files p id kind h).1 (record { number = other; path = q; id = same; kind = like; there = k; is = sym r }) tt;
-    folders = λ k. ap is_dir_node (other_mount (all.last) mount.number (all.final) (folder_of (all.last) k) (folders-away k)) ∙ all.fill.rest.folders.folders k;
+    working_directories = λ k. ap is_dir_node (other_mount (all.last) mount.number (all.final) (folder_of (all.last) k) (working_directories-away k)) ∙ all.fill.rest.working_directories.working_directories k;
     points = λ place d l e. absurd (no-point place d l e);
   }
 
@@ -282,4 +282,4 @@ mount-kept n k source point_text type_text s =
           room = omega (arith, fewer);
         } in
         added-kept n (record { number = least_free_mount n; point = path; fs = asked; source = source }) s may taken (ltb-false (free_count n) (file_count (content_of n asked source)) room)
-        (λ j. within-or-not n path j (not-root n path s.folders unpointed) away)
+        (λ j. within-or-not n path j (not-root n path s.working_directories unpointed) away)

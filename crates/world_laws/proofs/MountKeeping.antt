@@ -34,7 +34,7 @@ use Rattle.vfs_model.specs.declared.namespace.Namespace.{Namespace}
 use Rattle.vfs_model.specs.declared.namespace.Origin.{Origin}
 use Rattle.vfs_model.specs.declared.namespace.RomNode.{RomNode}
 use Rattle.vfs_model.specs.declared.namespace.RomNode.TheVariants as rom
-use Rattle.world_laws.proofs.Adding.{MayMount, placed, one-lives, one-rest, with_one}
+use Rattle.world_laws.proofs.Adding.{MayMount, placed, one-live_files, one-rest, with_one}
 use Rattle.world_laws.proofs.Binding.{Rest, rest-beside}
 use Rattle.world_laws.proofs.Contents.{AllDevices, IsDevice, IsTree, device-content, empty-tree, kept-tree, rom-tree}
 use Rattle.world_laws.proofs.Filling.{AllFit, Fill, Fits, InTree, begins_on, content_shape, pending}
@@ -106,8 +106,8 @@ all-home : (n : Namespace) (source : List ℕ) → Stands Nothing n → is_taken
 all-home n source s free device l = elim (true-or-false (slice_index_or n.devices device no_device).is_out) [
   | inr h ↦ h
   | inl h ↦
-      let one : count_by (is_backed_by (lies_on_device device)) n.lives ≡ 1 = s.boxes.devices device l ∙ ap one_if h in
-      absurd (at (counted-place (is_backed_by (lies_on_device device)) n.lives None (omega (arith, one))))
+      let one : count_by (is_backed_by (lies_on_device device)) n.live_files ≡ 1 = s.boxes.devices device l ∙ ap one_if h in
+      absurd (at (counted-place (is_backed_by (lies_on_device device)) n.live_files None (omega (arith, one))))
 ]
   where
     dev : (life : LiveFile) (found : Option Mount) → mount_numbered n life.mount ≡ found → life.kind ≡ kind.Chr → IsSomeAnd found (λ m. fits_mount n life m ≡ true) → ⊥
@@ -118,15 +118,15 @@ all-home n source s free device l = elim (true-or-false (slice_index_or n.device
         let yes = found-any (λ x. x.number == life.mount) (λ x. same_type x.fs fs.Dev) (all_mounts n) m e is in
         absurd (cc)
 
-    live : (place : ℕ) (found : Option LiveFile) → slice_index_or n.lives place None ≡ found → is_backed_by (lies_on_device device) found ≡ true → ⊥
+    live : (place : ℕ) (found : Option LiveFile) → slice_index_or n.live_files place None ≡ found → is_backed_by (lies_on_device device) found ≡ true → ⊥
     live place None e h = absurd (cc)
     live place (Some life) e h =
-        let there : life_at n (suc place) ≡ Some life = ap (λ k. slice_index_or n.lives k None) (omega arith) ∙ e in
+        let there : life_at n (suc place) ≡ Some life = ap (λ k. slice_index_or n.live_files k None) (omega arith) ∙ e in
         let fits : fits_kind (Some life) ≡ true = sym (ap fits_kind there) ∙ s.boxes.kinds (suc place) in
-        dev life (mount_numbered n life.mount) refl (device-life device life h fits) (s.lives (suc place) life there)
+        dev life (mount_numbered n life.mount) refl (device-life device life h fits) (s.live_files (suc place) life there)
 
-    at : AnyPlace (is_backed_by (lies_on_device device)) n.lives None → ⊥
-    at found = live found.place (slice_index_or n.lives found.place None) refl found.holds
+    at : AnyPlace (is_backed_by (lies_on_device device)) n.live_files None → ⊥
+    at found = live found.place (slice_index_or n.live_files found.place None) refl found.holds
 
 -- what is in the devices' content
 device-there : (n : Namespace) (p : Path) (o : Option Origin) (content : Content) → AllDevices n content → value_at path_cmp p content ≡ Some o → IsDevice n p o
@@ -169,7 +169,7 @@ devices-tree n s room = record {
   bounded =
       let all = all-files n (device_content n) (device-content n).all in
       let most = count_by-le-length (λ free. free) (free_rows n) in
-      let rows = rows-length n s.sizes.lives s.sizes.generations in
+      let rows = rows-length n s.sizes.live_files s.sizes.generations in
       omega (arith, all, room, most, rows);
 }
   where
@@ -342,7 +342,7 @@ module _ (n : Namespace) (mount : Mount) (s : Stands Nothing n) (may : MayMount 
         live = r.live;
         used = λ row l h. nothing-in row (s.used row l h);
         alone = r.alone;
-        folders = r.folders;
+        working_directories = r.working_directories;
         trees = r.trees;
         roms = r.roms;
         sizes = r.sizes;
@@ -356,7 +356,7 @@ module _ (n : Namespace) (mount : Mount) (s : Stands Nothing n) (may : MayMount 
     boxes = other-boxes h;
     devices = s.boxes.devices;
     cells = λ volume cell v c. let before = s.boxes.cells volume cell v c in let no = none volume cell in omega (arith, before, no);
-    lives = one-lives n mount s may;
+    live_files = one-live_files n mount s may;
     found = found-own;
     files = λ path id kind e. absurd (cc);
     alone = λ p q id same kind like e f r. absurd (cc);
@@ -368,14 +368,14 @@ module _ (n : Namespace) (mount : Mount) (s : Stands Nothing n) (may : MayMount 
     fit = fit;
     root = refl;
     mounts = refl;
-    folders = refl;
+    working_directories = refl;
     trees = refl;
   }
 
   -- a mount of a volume: the cells of its files are to be bound again
-  kept-lives : LivesFit (with_kept (with_one n mount) (volume_named n mount.source) [])
-  kept-lives row life h =
-      some-and-kept (mount_numbered (with_one n mount) life.mount) life (one-lives n mount s may row life h)
+  kept-live_files : LivesFit (with_kept (with_one n mount) (volume_named n mount.source) [])
+  kept-live_files row life h =
+      some-and-kept (mount_numbered (with_one n mount) life.mount) life (one-live_files n mount s may row life h)
     where
       some-and-kept : (found : Option Mount) (life : LiveFile) → IsSomeAnd found (λ m. fits_mount (with_one n mount) life m ≡ true) →
           IsSomeAnd found (λ m. fits_mount (with_kept (with_one n mount) (volume_named n mount.source) []) life m ≡ true)
@@ -438,12 +438,12 @@ module _ (n : Namespace) (mount : Mount) (s : Stands Nothing n) (may : MayMount 
       let spare = ap (λ xs. one_if (slice_index_or xs cell false)) (kept-spare v) in
       elim (same-or-other v (volume_named n mount.source)) [
         | inl e ↦
-            let now = ap (λ nodes. count_by (is_backed_by (lies_on_cell v cell)) n.lives + count_by (λ entry. is_kept_on cell entry.1) nodes) (kept-own v e) in
+            let now = ap (λ nodes. count_by (is_backed_by (lies_on_cell v cell)) n.live_files + count_by (λ entry. is_kept_on cell entry.1) nodes) (kept-own v e) in
             let some = pending-own v cell e (volume_at n (volume_named n mount.source)).kept in
             let were = ap (λ k. count_by (λ entry. is_kept_on cell entry.1) (volume_at n k).kept) e in
             omega (arith, before, spare, now, some, were)
         | inr e ↦
-            let now = ap (λ nodes. count_by (is_backed_by (lies_on_cell v cell)) n.lives + count_by (λ entry. is_kept_on cell entry.1) nodes) (kept-other v e) in
+            let now = ap (λ nodes. count_by (is_backed_by (lies_on_cell v cell)) n.live_files + count_by (λ entry. is_kept_on cell entry.1) nodes) (kept-other v e) in
             let none = pending-other v cell e (volume_at n (volume_named n mount.source)).kept in
             omega (arith, before, spare, now, none)
       ]
@@ -464,7 +464,7 @@ module _ (n : Namespace) (mount : Mount) (s : Stands Nothing n) (may : MayMount 
     boxes = cell-boxes;
     devices = s.boxes.devices;
     cells = cell-cells;
-    lives = kept-lives;
+    live_files = kept-live_files;
     found = found-own;
     files = λ path id kind e. absurd (cc);
     alone = λ p q id same kind like e f r. absurd (cc);
@@ -476,7 +476,7 @@ module _ (n : Namespace) (mount : Mount) (s : Stands Nothing n) (may : MayMount 
     fit = cell-fit e (volume_at n (volume_named n mount.source)).kept;
     root = refl;
     mounts = refl;
-    folders = refl;
+    working_directories = refl;
     trees = refl;
   }
 

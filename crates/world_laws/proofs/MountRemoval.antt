@@ -14,7 +14,7 @@ use Rattle.vfs_model.specs.declared.namespace.LiveFile.{LiveFile}
 use Rattle.vfs_model.specs.declared.namespace.Mount.{Mount}
 use Rattle.vfs_model.specs.declared.namespace.Namespace.{Namespace}
 use Rattle.vfs_model.specs.declared.namespace.RowChange.{RowChange}
-use Rattle.vfs_model.specs.declared.world.World.{World}
+use Rattle.vfs_model.specs.declared.world.WorldState.{WorldState}
 use Rattle.world_laws.proofs.Agreeing.{Agrees, agrees-beside}
 use Rattle.world_laws.proofs.Binding.{rest-stands}
 use Rattle.world_laws.proofs.Emptying.{Empty, empty-all}
@@ -30,7 +30,7 @@ emptied-stands number m e = rest-stands Nothing m e.rest (boxes-all m e.cells e.
   where
     counted : (row : ℕ) (life : LiveFile) → 0 < row → life_at m row ≡ Some life → IsSomeAnd (mount_numbered m life.mount) (λ mount. fits_mount m life mount ≡ true)
     counted row life l h = elim (same-or-other life.mount number) [
-      | inr other ↦ e.lives row life h other
+      | inr other ↦ e.live_files row life h other
       | inl same ↦ absurd (e.whole row life l h same)
     ]
 
@@ -53,7 +53,7 @@ freed-mounts rows row mounts =
     ap (λ n. record {
       next = n;
       changes = (free_row end_of_unmounted rows row).changes;
-    }) (ended-mounts (record rows.next { lives = slice_set rows.next.lives (row - 1) None }) (end_of_unmounted (backing_of (life_at rows.next row))) mounts)
+    }) (ended-mounts (record rows.next { live_files = slice_set rows.next.live_files (row - 1) None }) (end_of_unmounted (backing_of (life_at rows.next row))) mounts)
 
 all-freed : (left : List ℕ) (rows : Rows) (mounts : List Mount) → fold (free_row end_of_unmounted) (with_mounts mounts rows) left ≡ with_mounts mounts (fold (free_row end_of_unmounted) rows left)
 all-freed [] rows mounts = refl
@@ -64,7 +64,7 @@ freed-same : (rows : Rows) (row : ℕ) → (free_row end_of_unmounted rows row).
 unfolding free_row
 freed-same rows row = by (end_of_unmounted (backing_of (life_at rows.next row)))
   where
-    by : (e : End) → (after_end (record rows.next { lives = slice_set rows.next.lives (row - 1) None }) e).mounts ≡ rows.next.mounts
+    by : (e : End) → (after_end (record rows.next { live_files = slice_set rows.next.live_files (row - 1) None }) e).mounts ≡ rows.next.mounts
     by end.Nothing = refl
     by (end.Spare volume cell) = refl
     by (end.Kept volume cell) = refl
@@ -94,31 +94,31 @@ removed n mount changes =
 pub record Removed (n : Namespace) (mount : Mount) (changes : List RowChange) (out : Rows) : Type 0 where
   pub stands : Stands Nothing out.next
   pub pages : (volume cell : ℕ) → cell_capacity out.next volume cell ≡ cell_capacity n volume cell
-  pub files : (v : World) → Agrees (fold change_row v changes) n → Agrees (fold change_row v out.changes) out.next
+  pub files : (v : WorldState) → Agrees (fold change_row v changes) n → Agrees (fold change_row v out.changes) out.next
   pub references : out.next.references ≡ n.references
-  pub folders : out.next.folders ≡ n.folders
+  pub working_directories : out.next.working_directories ≡ n.working_directories
   pub root : out.next.root ≡ n.root
   pub mounts : out.next.mounts ≡ filter (stays mount.number) n.mounts
 
 -- what freeing rows leaves alone
 record Beside (before after : Namespace) : Type 0 where
   pub references : after.references ≡ before.references
-  pub folders : after.folders ≡ before.folders
+  pub working_directories : after.working_directories ≡ before.working_directories
   pub root : after.root ≡ before.root
 
 ended-beside : (m : Namespace) (e : End) → Beside m (after_end m e)
-ended-beside m end.Nothing = record { references = refl; folders = refl; root = refl }
-ended-beside m (end.Spare volume cell) = record { references = refl; folders = refl; root = refl }
-ended-beside m (end.Kept volume cell) = record { references = refl; folders = refl; root = refl }
-ended-beside m (end.Device device) = record { references = refl; folders = refl; root = refl }
+ended-beside m end.Nothing = record { references = refl; working_directories = refl; root = refl }
+ended-beside m (end.Spare volume cell) = record { references = refl; working_directories = refl; root = refl }
+ended-beside m (end.Kept volume cell) = record { references = refl; working_directories = refl; root = refl }
+ended-beside m (end.Device device) = record { references = refl; working_directories = refl; root = refl }
 
 freed-beside : (left : List ℕ) (rows : Rows) → Beside rows.next (fold (free_row end_of_unmounted) rows left).next
 unfolding free_row
-freed-beside [] rows = record { references = refl; folders = refl; root = refl }
+freed-beside [] rows = record { references = refl; working_directories = refl; root = refl }
 freed-beside (row ∷ left) rows =
-    let first = ended-beside (record rows.next { lives = slice_set rows.next.lives (row - 1) None }) (end_of_unmounted (backing_of (life_at rows.next row))) in
+    let first = ended-beside (record rows.next { live_files = slice_set rows.next.live_files (row - 1) None }) (end_of_unmounted (backing_of (life_at rows.next row))) in
     let later = freed-beside left (free_row end_of_unmounted rows row) in
-    record { references = later.references ∙ first.references; folders = later.folders ∙ first.folders; root = later.root ∙ first.root }
+    record { references = later.references ∙ first.references; working_directories = later.working_directories ∙ first.working_directories; root = later.root ∙ first.root }
 
 left-pages : (n : Namespace) (mount : Mount) (f : FsType) (volume cell : ℕ) → cell_capacity (left_by n mount f) volume cell ≡ cell_capacity n volume cell
 left-pages n mount fs.Tmp volume cell = refl
@@ -143,7 +143,7 @@ removal n mount changes s may =
       pages = λ volume cell. all.pages volume cell ∙ left-pages n mount mount.fs volume cell;
       files = λ v a. all.files v (agrees-beside (fold change_row v changes) n (left_by n mount mount.fs) (sym same.0) (sym same.1) a);
       references = beside.references ∙ same.2;
-      folders = beside.folders ∙ same.3;
+      working_directories = beside.working_directories ∙ same.3;
       root = beside.root ∙ same.6;
       mounts = same-mounts (rows_of_mount n mount.number) (record { next = left_by n mount mount.fs; changes = changes }) ∙ same.7;
     })

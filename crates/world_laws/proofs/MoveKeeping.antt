@@ -77,9 +77,9 @@ bare-unless-folder tree rest closed h file = elim (true-or-false (list_any (λ e
 
 -- a path of which a folder is asked is the path or below it
 pub within-or-not : (n : Namespace) (p : Path) (k : ℕ) → p ≢ [] → has_folder_within n p ≡ false → is_prefix p (folder_of n k) ≡ false
-within-or-not n p k h free = elim (below-or-past (k - 1) (length n.folders)) [
-  | inl l ↦ no-place (is_prefix p) n.folders (k - 1) [] free l
-  | inr l ↦ ap (is_prefix p) (get_or_past n.folders (k - 1) [] l) ∙ long p h
+within-or-not n p k h free = elim (below-or-past (k - 1) (length n.working_directories)) [
+  | inl l ↦ no-place (is_prefix p) n.working_directories (k - 1) [] free l
+  | inr l ↦ ap (is_prefix p) (get_or_past n.working_directories (k - 1) [] l) ∙ long p h
 ]
   where
     long : (p : Path) → p ≢ [] → is_prefix p [] ≡ false
@@ -173,9 +173,9 @@ folder-apart n p k s clear bare some other = elim (true-or-false (is_prefix p (f
     below [] e = other (e ∙ append-nil p)
     below (name ∷ names) e =
         let q = p ++ name ∷ names in
-        let folder : is_folder n q ≡ true = sym (ap (is_folder n) e) ∙ s.folders.folders k in
+        let folder : is_folder n q ≡ true = sym (ap (is_folder n) e) ∙ s.working_directories.working_directories k in
         let mount : covering_mount n q ≡ covering_mount n p = covering-below n p (name ∷ names) clear in
-        let rest : rest_of n q ≡ rest_of n p ++ name ∷ names = rest-below n p (name ∷ names) (standing-apart n s.folders) clear in
+        let rest : rest_of n q ≡ rest_of n p ++ name ∷ names = rest-below n p (name ∷ names) (standing-apart n s.working_directories) clear in
         let at : node_at n q ≡ node_in (tree_at n p) (rest_of n p ++ name ∷ names) = at-rest n q ∙ ap (λ m. node_in (tree_of n m.number) (rest_of n q)) mount ∙ ap (node_in (tree_at n p)) rest in
         let there : node_in (tree_at n p) (rest_of n p ++ name ∷ names) ≡ value_at path_cmp (rest_of n p ++ name ∷ names) (tree_at n p) = at-node (tree_at n p) (rest_of n p ++ name ∷ names) (front-some (rest_of n p) (name ∷ names) some) in
         let none : value_at path_cmp (rest_of n p ++ name ∷ names) (tree_at n p) ≡ None = none-below (rest_of n p) (rest_of n p ++ name ∷ names) (tree_at n p) bare (below-longer (rest_of n p) name names) in
@@ -191,10 +191,10 @@ folder-or-bare n p s some = elim (true-or-false (is_folder n p)) [
 
 module _ (n : Namespace) (old new : Path) (s : Stands Nothing n) (p : Passed n old new) where
   some-old : rest_of n old ≢ []
-  some-old = below-point n old s.folders p.unpointed.0
+  some-old = below-point n old s.working_directories p.unpointed.0
 
   some-new : rest_of n new ≢ []
-  some-new = below-point n new s.folders p.unpointed.1
+  some-new = below-point n new s.working_directories p.unpointed.1
 
   empty : has_nodes n new ≡ false
   empty = elim (folder-or-bare n new s some-new) [
@@ -203,18 +203,18 @@ module _ (n : Namespace) (old new : Path) (s : Stands Nothing n) (p : Passed n o
   ]
 
   clear : HasNoPoint n new
-  clear = clear-of-points n new s.folders p.unpointed.1 empty
+  clear = clear-of-points n new s.working_directories p.unpointed.1 empty
 
   plain : HasNoPoint n old
   plain = elim (folder-or-bare n old s some-old) [
     | inl h ↦ plain-folder n old p.unpointed.0 (second-of (is_folder n old) (has_mount_below n old) h p.plain)
-    | inr h ↦ clear-of-points n old s.folders p.unpointed.0 h.1
+    | inr h ↦ clear-of-points n old s.working_directories p.unpointed.0 h.1
   ]
 
-  old-folders : (k : ℕ) → is_prefix old (folder_of n k) ≡ false
-  old-folders k = elim (folder-or-bare n old s some-old) [
-    | inl h ↦ within-or-not n old k (not-root n old s.folders p.unpointed.0) (second-of (is_folder n old) (has_folder_within n old) h p.free)
-    | inr h ↦ folder-apart n old k s plain h.1 some-old (λ e. let folder = s.folders.folders k in let none = ap (is_folder n) e ∙ h.0 in absurd (cc))
+  old-working_directories : (k : ℕ) → is_prefix old (folder_of n k) ≡ false
+  old-working_directories k = elim (folder-or-bare n old s some-old) [
+    | inl h ↦ within-or-not n old k (not-root n old s.working_directories p.unpointed.0) (second-of (is_folder n old) (has_folder_within n old) h p.free)
+    | inr h ↦ folder-apart n old k s plain h.1 some-old (λ e. let folder = s.working_directories.working_directories k in let none = ap (is_folder n) e ∙ h.0 in absurd (cc))
   ]
 
   not-within : is_prefix old new ≡ true → ⊥
@@ -226,7 +226,7 @@ module _ (n : Namespace) (old new : Path) (s : Stands Nothing n) (p : Passed n o
       absurd (cc)
 
   same-point : (covering_mount n old).point ≡ (covering_mount n new).point
-  same-point = (standing-apart n s.folders).own old new p.one
+  same-point = (standing-apart n s.working_directories).own old new p.one
 
   rests-apart : is_prefix (rest_of n old) (rest_of n new) ≡ false
   rests-apart = elim (true-or-false (is_prefix (rest_of n old) (rest_of n new))) [
@@ -234,8 +234,8 @@ module _ (n : Namespace) (old new : Path) (s : Stands Nothing n) (p : Passed n o
     | inl h ↦
         let point = (covering_mount n new).point in
         let both : is_prefix (point ++ rest_of n old) (point ++ rest_of n new) ≡ true = prefix-append-both point (rest_of n old) (rest_of n new) h in
-        let one : point ++ rest_of n old ≡ old = ap (λ x. x ++ rest_of n old) (sym same-point) ∙ sym (splits n old s.folders) in
-        let other : point ++ rest_of n new ≡ new = sym (splits n new s.folders) in
+        let one : point ++ rest_of n old ≡ old = ap (λ x. x ++ rest_of n old) (sym same-point) ∙ sym (splits n old s.working_directories) in
+        let other : point ++ rest_of n new ≡ new = sym (splits n new s.working_directories) in
         absurd (not-within (subst (λ x. is_prefix x new ≡ true) one (subst (λ x. is_prefix (point ++ rest_of n old) x ≡ true) other both)))
   ]
 
@@ -251,7 +251,7 @@ module _ (n : Namespace) (old new : Path) (s : Stands Nothing n) (p : Passed n o
           closed = s.trees (number_at n old);
           from = some-old;
           name = name;
-          parent = sym (ap (λ t. is_dir_node (node_in t name.front)) same-tree) ∙ parent-dir n new s.folders p.walks.1 name;
+          parent = sym (ap (λ t. is_dir_node (node_in t name.front)) same-tree) ∙ parent-dir n new s.working_directories p.walks.1 name;
           clear = sym (ap (λ t. list_any (λ entry. is_below (rest_of n new) entry.0) t) same-tree) ∙ empty;
           apart = rests-apart;
           there = ap is_some (sym (at-node (tree_at n old) (rest_of n old) some-old) ∙ sym (at-rest n old)) ∙ not-false (is_there n old) p.there;
@@ -259,7 +259,7 @@ module _ (n : Namespace) (old new : Path) (s : Stands Nothing n) (p : Passed n o
         plain = plain;
         clear = clear;
         empty = empty;
-        folders = λ k. (old-folders k, folder-apart n new k s clear empty some-new (no-folder n new (not-root n new s.folders p.unpointed.1) p.unused k));
+        working_directories = λ k. (old-working_directories k, folder-apart n new k s clear empty some-new (no-folder n new (not-root n new s.working_directories p.unpointed.1) p.unused k));
       }
     where
       not-false : (b : Bool) → not b ≡ false → b ≡ true
@@ -276,7 +276,7 @@ module _ (n : Namespace) (old new : Path) (s : Stands Nothing n) (p : Passed n o
   moved-kept (Some node.Dir) e = names-kept n (with_moved n old new) (moves-stands n old new s may (λ id kind h. let dir = at-new-path (Some node.Dir) e in absurd (cc))) refl refl refl
   moved-kept (Some (node.File id kind)) e =
       let there = at-new-path (Some (node.File id kind)) e in
-      let row = live-row n id kind (number_at n old) s.sizes.lives (s.live.linked (number_at n old) (rest_of n new) id kind there) in
+      let row = live-row n id kind (number_at n old) s.sizes.live_files (s.live.linked (number_at n old) (rest_of n new) id kind there) in
       lost-kept n (with_moved n old new) id.row row.0 row.1 (replaces-stands n old new s may id kind there) refl refl refl
 
 either-kept : (n : Namespace) (old new : Path) (b : Bool) → same_path old new ≡ b → Stands Nothing n → rename_refusals n old new ≡ Ok tt →

@@ -93,7 +93,7 @@ root-folder n f =
     no-rest (name ∷ point) e = absurd (cc)
 
 pub home-kept : (n : Namespace) (k : ℕ) → Stands Nothing n → Kept n (home_step n k)
-home-kept n k s = names-kept n (with_folder_of n k []) (folder-stands Nothing n k [] (ap is_dir_node (root-folder n s.folders)) (omega arith) s) refl refl refl
+home-kept n k s = names-kept n (with_folder_of n k []) (folder-stands Nothing n k [] (ap is_dir_node (root-folder n s.working_directories)) (omega arith) s) refl refl refl
 
 pub mkdir-kept : (n : Namespace) (k : ℕ) (text : List ℕ) → Stands Nothing n → Kept n (mkdir_step n k text)
 unfolding mkdir_refusals with_node
@@ -119,12 +119,12 @@ below-point n p f unpointed e =
 
 -- a path that is no session's working directory, where `/` isn't the path
 pub no-folder : (n : Namespace) (p : Path) → p ≢ [] → is_working_directory n p ≡ false → (k : ℕ) → folder_of n k ≢ p
-no-folder n p h free k e = elim (below-or-past (k - 1) (length n.folders)) [
+no-folder n p h free k e = elim (below-or-past (k - 1) (length n.working_directories)) [
   | inl l ↦
-      let none : same_path p (folder_of n k) ≡ false = no-place (same_path p) n.folders (k - 1) [] free l in
+      let none : same_path p (folder_of n k) ≡ false = no-place (same_path p) n.working_directories (k - 1) [] free l in
       let same : same_path p (folder_of n k) ≡ true = ap (same_path p) e ∙ same_path-itself p in
       absurd (cc)
-  | inr l ↦ h (sym e ∙ get_or_past n.folders (k - 1) [] l)
+  | inr l ↦ h (sym e ∙ get_or_past n.working_directories (k - 1) [] l)
 ]
 
 pub not-root : (n : Namespace) (p : Path) → FoldersStand n → is_point n p ≡ false → p ≢ []
@@ -151,11 +151,11 @@ rmdir-kept n k text s =
     let r5 = then-rest (refuse errno.EROFS when (is_read_only n path)) _ tt r4 in
     let bare = refuse-passed errno.ENOTEMPTY (has_nodes n path) (then-first (refuse errno.ENOTEMPTY when (has_nodes n path)) _ tt r5) in
     let free = refuse-passed errno.EBUSY (is_working_directory n path) (then-rest (refuse errno.ENOTEMPTY when (has_nodes n path)) _ tt r5) in
-    let below = below-point n path s.folders unpointed in
+    let below = below-point n path s.working_directories unpointed in
     let may : MayGo n path = record {
       below = below;
       childless = λ name. none-below (rest_of n path) (rest_of n path ++ name ∷ []) (tree_at n path) bare (below-longer (rest_of n path) name []);
-      folders = no-folder n path (not-root n path s.folders unpointed) free;
+      working_directories = no-folder n path (not-root n path s.working_directories unpointed) free;
     } in
     names-kept n (without_node n path) (folder-gone n path s may (node-there n path node.Dir below (there-folder (node_at n path) present folder))) refl refl refl))
 
@@ -197,8 +197,8 @@ unlink-kept n k text s =
         let may : MayGo n path = record {
           below = below;
           childless = file-childless n path id kind s below at;
-          folders = λ j same. let folder = s.folders.folders j in let none : is_folder n (folder_of n j) ≡ false = ap (is_folder n) same ∙ ap is_dir_node there in absurd (cc);
+          working_directories = λ j same. let folder = s.working_directories.working_directories j in let none : is_folder n (folder_of n j) ≡ false = ap (is_folder n) same ∙ ap is_dir_node there in absurd (cc);
         } in
-        let row = live-row n id kind (number_at n path) s.sizes.lives (s.live.linked (number_at n path) (rest_of n path) id kind at) in
+        let row = live-row n id kind (number_at n path) s.sizes.live_files (s.live.linked (number_at n path) (rest_of n path) id kind at) in
         subst (λ found. Kept n (done (after_loss (without_node n path) found))) (sym there)
         (lost-kept n (without_node n path) id.row row.0 row.1 (file-gone n path s may id kind at) refl refl refl)

@@ -147,8 +147,8 @@ module _ (Excused : ℕ → Type 0) (n : Namespace) (p : Path) (new : NodeKind) 
   put-point place d l e =
       let point = (slice_index_or n.mounts place d).point in
       let rest : Path = drop (length (covered_mount n point).point) point in
-      let before = s.folders.points place d l in
-      let apart : is_prefix rest (rest_of n p) ≡ false = point-apart n place d p s.folders l (sym e) in
+      let before = s.working_directories.points place d l in
+      let apart : is_prefix rest (rest_of n p) ≡ false = point-apart n place d p s.working_directories l (sym e) in
       let old : node_in (tree_at n p) rest ≡ Some node.Dir = sym (ap (λ k. node_in (tree_of n k) rest) e) ∙ before.0 in
       let none : list_any (λ entry. is_below rest entry.0) (tree_at n p) ≡ false = sym (ap (λ k. list_any (λ entry. is_below rest entry.0) (tree_of n k)) e) ∙ before.1 in
       let other : rest ≢ rest_of n p = λ x. let yes : is_prefix rest (rest_of n p) ≡ true = ap (is_prefix rest) (sym x) ∙ prefix-itself rest in absurd (cc) in
@@ -164,7 +164,7 @@ module _ (Excused : ℕ → Type 0) (n : Namespace) (p : Path) (new : NodeKind) 
   put-may : node_at n p ≡ None → is_full n p ≡ false → MayStand n (number_at n p) (put path_cmp (rest_of n p) new (tree_at n p))
   unfolding with_node
   put-may h room =
-      let covering = covering-number n p s.folders in
+      let covering = covering-number n p s.working_directories in
       record {
         small = covering.0;
         mounted = covering.1;
@@ -173,11 +173,11 @@ module _ (Excused : ℕ → Type 0) (n : Namespace) (p : Path) (new : NodeKind) 
         linked = put-linked;
         within = put-within;
         across = put-across;
-        folders = λ k.
+        working_directories = λ k.
             let q = folder_of n k in
-            let folder = s.folders.folders k in
+            let folder = s.working_directories.working_directories k in
             let other : q ≢ p = λ e. let none : is_folder n q ≡ false = ap (is_folder n) e ∙ ap is_dir_node h in absurd (cc) in
-            ap is_dir_node (put-other n p new (standing-apart n s.folders) (subst (λ x. number_at n p < x) (sym s.sizes.trees) covering.0) q other) ∙ folder;
+            ap is_dir_node (put-other n p new (standing-apart n s.working_directories) (subst (λ x. number_at n p < x) (sym s.sizes.trees) covering.0) q other) ∙ folder;
         points = put-point;
       }
 
@@ -193,7 +193,7 @@ module _ (Excused : ℕ → Type 0) (n : Namespace) (p : Path) (new : NodeKind) 
           let here : value_at path_cmp linked.path (tree_at n p) ≡ Some (node.File linked.id linked.kind) = sym (ap (λ k. value_at path_cmp linked.path (tree_of n k)) e) ∙ linked.there in
           let other : linked.path ≢ rest_of n p = λ x. let none = ap (λ r. value_at path_cmp r (tree_at n p)) x ∙ absent.none in absurd (cc) in
           ap (λ k. value_at path_cmp linked.path (tree_of (with_tree n (number_at n p) (put path_cmp (rest_of n p) new (tree_at n p))) k)) e
-          ∙ ap (value_at path_cmp linked.path) (tree-own n (number_at n p) _ s.sizes.trees (covering-number n p s.folders).0)
+          ∙ ap (value_at path_cmp linked.path) (tree-own n (number_at n p) _ s.sizes.trees (covering-number n p s.working_directories).0)
           ∙ at-put-other (rest_of n p) linked.path new (tree_at n p) other ∙ here
 
   -- and the new file is linked
@@ -204,7 +204,7 @@ module _ (Excused : ℕ → Type 0) (n : Namespace) (p : Path) (new : NodeKind) 
     path = rest_of n p;
     id = id;
     kind = kind;
-    there = ap (value_at path_cmp (rest_of n p)) (tree-own n (number_at n p) _ s.sizes.trees (covering-number n p s.folders).0)
+    there = ap (value_at path_cmp (rest_of n p)) (tree-own n (number_at n p) _ s.sizes.trees (covering-number n p s.working_directories).0)
         ∙ at-put-here (rest_of n p) new (tree_at n p) ∙ ap Some e;
     is = refl;
   }
@@ -223,7 +223,7 @@ module _ (Excused : ℕ → Type 0) (n : Namespace) (p : Path) (new : NodeKind) 
 -- a folder comes to an absent path
 pub folder-comes : (n : Namespace) (p : Path) → Stands Nothing n → walk_refusal n p ≡ None → node_at n p ≡ None → is_full n p ≡ false → Stands Nothing (with_node n p node.Dir)
 folder-comes n p s walk h room =
-    put-stands Nothing n p node.Dir s (absent-of n p s.folders walk h) (λ id kind e. absurd (not-file id kind e)) Nothing h room (λ row none. absurd none)
+    put-stands Nothing n p node.Dir s (absent-of n p s.working_directories walk h) (λ id kind e. absurd (not-file id kind e)) Nothing h room (λ row none. absurd none)
   where
     not-file : (id : FileId) (kind : Kind) → node.Dir ≢ node.File id kind
     not-file id kind e = absurd (cc)
@@ -239,7 +239,7 @@ kind-same id other kind like e = ap of e
 pub file-comes : (n : Namespace) (p : Path) (id : FileId) (kind : Kind) → Stands (Only id.row) n → walk_refusal n p ≡ None → node_at n p ≡ None → is_full n p ≡ false →
     IsLive n id kind (number_at n p) → (Linked n id.row → Unit {0} → ⊥) → Stands Nothing (with_node n p (node.File id kind))
 file-comes n p id kind s walk h room live unlinked =
-    let absent = absent-of n p s.folders walk h in
+    let absent = absent-of n p s.working_directories walk h in
     put-stands (Only id.row) n p (node.File id kind) s absent fresh Nothing h room
     (λ row e. subst (IsUsed Nothing (with_node n p (node.File id kind))) (sym e) (inl (put-new (Only id.row) n p (node.File id kind) s absent fresh id kind refl)))
   where

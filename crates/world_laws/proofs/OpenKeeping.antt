@@ -33,7 +33,7 @@ use Rattle.vfs_model.specs.declared.namespace.Mount.{Mount}
 use Rattle.vfs_model.specs.declared.namespace.Namespace.{Namespace}
 use Rattle.vfs_model.specs.declared.namespace.Reference.{Reference}
 use Rattle.vfs_model.specs.declared.namespace.RowChange.TheVariants as change
-use Rattle.vfs_model.specs.declared.world.World.{World}
+use Rattle.vfs_model.specs.declared.world.WorldState.{WorldState}
 use Rattle.world_laws.proofs.Agreeing.{Agrees, Begins, agrees-beside, bind-agrees}
 use Rattle.world_laws.proofs.Binding.{IsFreeBacking, MayBind, some-life, bind-stands, next_generations}
 use Rattle.world_laws.proofs.Covering.{IsMount, covering-is}
@@ -71,20 +71,20 @@ numbered n m f x =
     (λ other l h. f.numbers_differ other x.place m l x.within (h ∙ sym (ap (λ y. y.number) x.is)))
 
 -- a free row, by its place in the list
-pub free-at : (n : Namespace) → length n.lives ≡ 1024 → length n.generations ≡ 1024 → position_or_len (λ free. free) (free_rows n) < 1024 →
-    slice_index_or n.lives (position_or_len (λ free. free) (free_rows n)) None ≡ None
-free-at n lives generations l =
+pub free-at : (n : Namespace) → length n.live_files ≡ 1024 → length n.generations ≡ 1024 → position_or_len (λ free. free) (free_rows n) < 1024 →
+    slice_index_or n.live_files (position_or_len (λ free. free) (free_rows n)) None ≡ None
+free-at n live_files generations l =
     let at = position_or_len (λ free. free) (free_rows n) in
-    let zipped : length (zip n.lives n.generations) ≡ 1024 = length-zip n.lives n.generations ∙ both lives generations in
-    let all : length (free_rows n) ≡ 1024 = length-mapped (zip n.lives n.generations) ∙ zipped in
+    let zipped : length (zip n.live_files n.generations) ≡ 1024 = length-zip n.live_files n.generations ∙ both live_files generations in
+    let all : length (free_rows n) ≡ 1024 = length-mapped (zip n.live_files n.generations) ∙ zipped in
     let passes : slice_index_or (free_rows n) at false ≡ true = passes_at_first (λ free. free) (free_rows n) false (subst (λ x. at < x) (sym all) l) in
-    let mapped : slice_index_or (free_rows n) at false ≡ is_free_row (slice_index_or (zip n.lives n.generations) at (None, 18446744073709551615)).0 (slice_index_or (zip n.lives n.generations) at (None, 18446744073709551615)).1 =
-    get_or-map (λ row. is_free_row row.0 row.1) (zip n.lives n.generations) at (None, 18446744073709551615) in
-    let pair : slice_index_or (zip n.lives n.generations) at (None, 18446744073709551615) ≡ (slice_index_or n.lives at None, slice_index_or n.generations at 18446744073709551615) =
-    get_or-zip n.lives n.generations at (None, 18446744073709551615) (subst (λ x. at < x) (sym lives) l) (subst (λ x. at < x) (sym generations) l) in
-    let free : is_free_row (slice_index_or n.lives at None) (slice_index_or n.generations at 18446744073709551615) ≡ true =
+    let mapped : slice_index_or (free_rows n) at false ≡ is_free_row (slice_index_or (zip n.live_files n.generations) at (None, 18446744073709551615)).0 (slice_index_or (zip n.live_files n.generations) at (None, 18446744073709551615)).1 =
+    get_or-map (λ row. is_free_row row.0 row.1) (zip n.live_files n.generations) at (None, 18446744073709551615) in
+    let pair : slice_index_or (zip n.live_files n.generations) at (None, 18446744073709551615) ≡ (slice_index_or n.live_files at None, slice_index_or n.generations at 18446744073709551615) =
+    get_or-zip n.live_files n.generations at (None, 18446744073709551615) (subst (λ x. at < x) (sym live_files) l) (subst (λ x. at < x) (sym generations) l) in
+    let free : is_free_row (slice_index_or n.live_files at None) (slice_index_or n.generations at 18446744073709551615) ≡ true =
     sym (ap (λ row. is_free_row row.0 row.1) pair) ∙ sym mapped ∙ passes in
-    none-is (slice_index_or n.lives at None) (and-first (is_none (slice_index_or n.lives at None)) _ free)
+    none-is (slice_index_or n.live_files at None) (and-first (is_none (slice_index_or n.live_files at None)) _ free)
   where
     both : {a b : ℕ} → a ≡ 1024 → b ≡ 1024 → min a b ≡ 1024
     both e f = omega (arith, e, f)
@@ -99,15 +99,15 @@ pub record FreeRow (n : Namespace) (row : ℕ) : Type 0 where
   pub small : row - 1 < 1024
   pub free : life_at n row ≡ None
 
-pub least-free : (n : Namespace) → length n.lives ≡ 1024 → length n.generations ≡ 1024 → nat_lt 1024 (least_free_row n) ≡ false → FreeRow n (least_free_row n)
-least-free n lives generations h =
+pub least-free : (n : Namespace) → length n.live_files ≡ 1024 → length n.generations ≡ 1024 → nat_lt 1024 (least_free_row n) ≡ false → FreeRow n (least_free_row n)
+least-free n live_files generations h =
     let small : least_free_row n ≤ 1024 = ltb-false 1024 (least_free_row n) h in
     let at = position_or_len (λ free. free) (free_rows n) in
     let place : least_free_row n - 1 ≡ at = omega arith in
     record {
       counted = omega arith;
       small = omega (arith, small);
-      free = ap (λ k. slice_index_or n.lives k None) place ∙ free-at n lives generations (omega (arith, small));
+      free = ap (λ k. slice_index_or n.live_files k None) place ∙ free-at n live_files generations (omega (arith, small));
     }
 
 -- what a bound row leaves as it was
@@ -140,10 +140,10 @@ taken-trees m backing.Memory = refl
 taken-trees m (backing.Cell volume cell) = refl
 taken-trees m (backing.Device device) = refl
 
-pub taken-lives : (m : Namespace) (b : Backing) → ((after_taking m b).lives ≡ m.lives) × ((after_taking m b).generations ≡ m.generations)
-taken-lives m backing.Memory = (refl, refl)
-taken-lives m (backing.Cell volume cell) = (refl, refl)
-taken-lives m (backing.Device device) = (refl, refl)
+pub taken-live_files : (m : Namespace) (b : Backing) → ((after_taking m b).live_files ≡ m.live_files) × ((after_taking m b).generations ≡ m.generations)
+taken-live_files m backing.Memory = (refl, refl)
+taken-live_files m (backing.Cell volume cell) = (refl, refl)
+taken-live_files m (backing.Device device) = (refl, refl)
 
 pub taken-pages : (m : Namespace) (b : Backing) (volume cell : ℕ) → cell_capacity (after_taking m b) volume cell ≡ cell_capacity m volume cell
 taken-pages m backing.Memory volume cell = refl
@@ -167,9 +167,9 @@ make-stands n p row life may s walk absent room mount =
     let b = life.backing in
     let bound = bind-stands n row life may s in
     subst (Stands Nothing) (sym (put-and-bind n p (node.File (next_file n row) life.kind) row life b))
-    (file-comes (after_taking m b) p (next_file n row) life.kind bound (taken-walk m b p ∙ walk) (taken-node m b p ∙ absent) (taken-full m b p ∙ room) (alive b (taken-lives m b)) (unlinked b))
+    (file-comes (after_taking m b) p (next_file n row) life.kind bound (taken-walk m b p ∙ walk) (taken-node m b p ∙ absent) (taken-full m b p ∙ room) (alive b (taken-live_files m b)) (unlinked b))
   where
-    alive : (b : Backing) → ((after_taking (with_life n row (Some life) (next_generations n row)) b).lives ≡ (with_life n row (Some life) (next_generations n row)).lives)
+    alive : (b : Backing) → ((after_taking (with_life n row (Some life) (next_generations n row)) b).live_files ≡ (with_life n row (Some life) (next_generations n row)).live_files)
         × ((after_taking (with_life n row (Some life) (next_generations n row)) b).generations ≡ (with_life n row (Some life) (next_generations n row)).generations) →
         IsLive (after_taking (with_life n row (Some life) (next_generations n row)) b) (next_file n row) life.kind (number_at (after_taking (with_life n row (Some life) (next_generations n row)) b) p)
     alive b same = record {
@@ -177,7 +177,7 @@ make-stands n p row life may s walk absent room mount =
       generation = ap (λ generations. slice_index_or generations (row - 1) 0) same.1
           ∙ set-here n.generations (row - 1) (generation_at n row + 1) 0 (subst (λ x. row - 1 < x) (sym s.sizes.generations) may.within);
       life = subst (λ found. IsSomeAnd found (λ x. (x.kind ≡ life.kind) × (x.mount ≡ number_at (after_taking (with_life n row (Some life) (next_generations n row)) b) p)))
-          (sym (ap (λ lives. slice_index_or lives (row - 1) None) same.0 ∙ set-here n.lives (row - 1) (Some life) None (subst (λ x. row - 1 < x) (sym s.sizes.lives) may.within)))
+          (sym (ap (λ live_files. slice_index_or live_files (row - 1) None) same.0 ∙ set-here n.live_files (row - 1) (Some life) None (subst (λ x. row - 1 < x) (sym s.sizes.live_files) may.within)))
           (refl, mount ∙ sym (taken-number (with_life n row (Some life) (next_generations n row)) b p));
     }
 
@@ -275,13 +275,13 @@ made-kept n k p may absent s =
     let not_full : is_full n p ≡ false = nor-first (is_full n p) (nat_lt 1024 row) (nor-first (is_full n p || nat_lt 1024 row) (is_without_cell n m m.fs) room) in
     let some_row : nat_lt 1024 row ≡ false = nor-second (is_full n p) (nat_lt 1024 row) (nor-first (is_full n p || nat_lt 1024 row) (is_without_cell n m m.fs) room) in
     let some_cell : is_without_cell n m m.fs ≡ false = nor-second (is_full n p || nat_lt 1024 row) (is_without_cell n m m.fs) room in
-    let free = least-free n s.sizes.lives s.sizes.generations some_row in
+    let free = least-free n s.sizes.live_files s.sizes.generations some_row in
     let bind : MayBind n row life = record {
       counted = free.counted;
       within = free.small;
       free = free.free;
       kind = fresh-kind n m m.fs refl writable;
-      mount = some-found (λ x. fits_mount n life x ≡ true) (mount_numbered n m.number) m (numbered n m s.folders (covering-is n p s.folders)) (fresh-mount n m m.fs refl);
+      mount = some-found (λ x. fits_mount n life x ≡ true) (mount_numbered n m.number) m (numbered n m s.working_directories (covering-is n p s.working_directories)) (fresh-mount n m m.fs refl);
       backing = fresh-backing n m m.fs writable some_cell;
     } in
     record {
@@ -290,10 +290,10 @@ made-kept n k p may absent s =
       files = λ v a. made-files v a row life (fresh-begins n m m.fs writable) free.small;
     }
   where
-    made-files : (v : World) → Agrees v n → (row : ℕ) (life : LiveFile) → Begins life (new_origin life.backing) → row - 1 < 1024 →
+    made-files : (v : WorldState) → Agrees v n → (row : ℕ) (life : LiveFile) → Begins life (new_origin life.backing) → row - 1 < 1024 →
         Agrees (change_row v (change.Bind (next_file n row) (new_origin life.backing))) (bind_row (with_node n p (node.File (next_file n row) life.kind)) row life)
     made-files v a row life b l =
-        bind-agrees v (with_node n p (node.File (next_file n row) life.kind)) row life (new_origin life.backing) l s.sizes.lives s.sizes.generations b
+        bind-agrees v (with_node n p (node.File (next_file n row) life.kind)) row life (new_origin life.backing) l s.sizes.live_files s.sizes.generations b
         (agrees-beside v n (with_node n p (node.File (next_file n row) life.kind)) refl refl a)
 
 taken-references : (m : Namespace) (b : Backing) → (after_taking m b).references ≡ m.references
@@ -321,7 +321,7 @@ opened-kept n k p rows l same h kept (Some (node.File id kind)) e =
     let reference : Reference = record { role = role.Open; file = id; kind = kind; mount = (covering_mount m p).number } in
     let live = kept.stands.live.linked (number_at m p) (rest_of m p) id kind (node-there m p (node.File id kind) (file-below m p id kind e) e) in
     record {
-      stands = refer-stands Nothing m (place_of k number) reference place (live, (covering-number m p kept.stands.folders).1) kept.stands;
+      stands = refer-stands Nothing m (place_of k number) reference place (live, (covering-number m p kept.stands.working_directories).1) kept.stands;
       pages = kept.pages;
       files = λ v a. agrees-beside _ m (with_reference m k number (Some reference)) refl refl (kept.files v a);
     }

@@ -7,7 +7,7 @@ use Rattle.vfs_model.specs.Lookup.{covering_mount, is_folder, node_at}
 use Rattle.vfs_model.specs.Namespace.{with_folder_of}
 use Rattle.vfs_model.specs.declared.namespace.Namespace.{Namespace}
 use Rattle.vfs_model.specs.declared.namespace.Reference.{Reference}
-use Rattle.world_laws.proofs.Beside.{alive-beside, boxes-beside, folders-beside, live-beside}
+use Rattle.world_laws.proofs.Beside.{alive-beside, boxes-beside, working_directories-beside, live-beside}
 use Rattle.world_laws.proofs.Lists.{below-or-past, same-or-other, same-some, set-here, set-there}
 use Rattle.world_laws.proofs.Standing.{Held, IsUsed, NamespaceSizes, Nothing, Only, Stands}
 
@@ -26,29 +26,29 @@ pub folder-stands : (Excused : ℕ → Type 0) (n : Namespace) (k : ℕ) (path :
     Stands Excused n → Stands Excused (with_folder_of n k path)
 unfolding node_at covering_mount
 folder-stands Excused n k path there short s = record {
-  live = live-beside n (slice_set n.folders (k - 1) path) n.volumes n.devices s.live;
+  live = live-beside n (slice_set n.working_directories (k - 1) path) n.volumes n.devices s.live;
   used = s.used;
   alone = s.alone;
-  folders = record {
-    folders = λ j. set-keeps (λ p. is_folder n p ≡ true) n.folders (k - 1) (j - 1) path [] there (s.folders.folders j);
-    short = λ j. set-keeps (λ p. length (printed p) ≤ 1024) n.folders (k - 1) (j - 1) path [] short (s.folders.short j);
-    root = s.folders.root;
-    points = s.folders.points;
-    points_differ = s.folders.points_differ;
-    numbers_differ = s.folders.numbers_differ;
-    numbers = s.folders.numbers;
-    nested = s.folders.nested;
-    unused = s.folders.unused;
+  working_directories = record {
+    working_directories = λ j. set-keeps (λ p. is_folder n p ≡ true) n.working_directories (k - 1) (j - 1) path [] there (s.working_directories.working_directories j);
+    short = λ j. set-keeps (λ p. length (printed p) ≤ 1024) n.working_directories (k - 1) (j - 1) path [] short (s.working_directories.short j);
+    root = s.working_directories.root;
+    points = s.working_directories.points;
+    points_differ = s.working_directories.points_differ;
+    numbers_differ = s.working_directories.numbers_differ;
+    numbers = s.working_directories.numbers;
+    nested = s.working_directories.nested;
+    unused = s.working_directories.unused;
   };
   trees = s.trees;
-  boxes = boxes-beside n n.trees (slice_set n.folders (k - 1) path) n.references n.generations s.boxes;
-  lives = s.lives;
+  boxes = boxes-beside n n.trees (slice_set n.working_directories (k - 1) path) n.references n.generations s.boxes;
+  live_files = s.live_files;
   roms = s.roms;
   sizes = record {
-    lives = s.sizes.lives;
+    live_files = s.sizes.live_files;
     generations = s.sizes.generations;
     trees = s.sizes.trees;
-    folders = length-set n.folders (k - 1) path ∙ s.sizes.folders;
+    working_directories = length-set n.working_directories (k - 1) path ∙ s.sizes.working_directories;
     mounts = s.sizes.mounts;
     references = s.sizes.references;
   };
@@ -77,10 +77,10 @@ held-beside n place found row held h = record { place = held.place; reference = 
 
 place-sizes : (n : Namespace) (place : ℕ) (found : Option Reference) → NamespaceSizes n → NamespaceSizes (with_place n place found)
 place-sizes n place found sizes = record {
-  lives = sizes.lives;
+  live_files = sizes.live_files;
   generations = sizes.generations;
   trees = sizes.trees;
-  folders = sizes.folders;
+  working_directories = sizes.working_directories;
   mounts = sizes.mounts;
   references = length-set n.references place found ∙ sizes.references;
 }
@@ -99,10 +99,10 @@ refer-stands Excused n place reference none good s = record {
   live = place-live n place (Some reference) (λ other e. subst (IsGood n) (same-some reference other e) good) s.live;
   used = λ row l h. still-held Excused n place row reference none (s.used row l h);
   alone = s.alone;
-  folders = folders-beside n n.lives n.generations (slice_set n.references place (Some reference)) n.volumes n.devices s.folders;
+  working_directories = working_directories-beside n n.live_files n.generations (slice_set n.references place (Some reference)) n.volumes n.devices s.working_directories;
   trees = s.trees;
-  boxes = boxes-beside n n.trees n.folders (slice_set n.references place (Some reference)) n.generations s.boxes;
-  lives = s.lives;
+  boxes = boxes-beside n n.trees n.working_directories (slice_set n.references place (Some reference)) n.generations s.boxes;
+  live_files = s.live_files;
   roms = s.roms;
   sizes = place-sizes n place (Some reference) s.sizes;
 }
@@ -124,10 +124,10 @@ unrefer-stands n place reference there s = record {
   live = place-live n place None (λ other e. absurd (cc)) s.live;
   used = λ row l h. lost-held n place row reference there (s.used row l h);
   alone = s.alone;
-  folders = folders-beside n n.lives n.generations (slice_set n.references place None) n.volumes n.devices s.folders;
+  working_directories = working_directories-beside n n.live_files n.generations (slice_set n.references place None) n.volumes n.devices s.working_directories;
   trees = s.trees;
-  boxes = boxes-beside n n.trees n.folders (slice_set n.references place None) n.generations s.boxes;
-  lives = s.lives;
+  boxes = boxes-beside n n.trees n.working_directories (slice_set n.references place None) n.generations s.boxes;
+  live_files = s.live_files;
   roms = s.roms;
   sizes = place-sizes n place None s.sizes;
 }

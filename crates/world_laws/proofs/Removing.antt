@@ -27,7 +27,7 @@ use Rattle.world_laws.proofs.TreeParts.{filter-none, same-or-other-path, without
 pub record MayGo (n : Namespace) (p : Path) : Type 0 where
   pub below : rest_of n p ≢ []
   pub childless : (name : List ℕ) → value_at path_cmp (rest_of n p ++ name ∷ []) (tree_at n p) ≡ None
-  pub folders : (k : ℕ) → folder_of n k ≢ p
+  pub working_directories : (k : ℕ) → folder_of n k ≢ p
 
 module _ (n : Namespace) (p : Path) (s : Stands Nothing n) (may : MayGo n p) where
   -- a file that is left stood where it stands
@@ -48,8 +48,8 @@ module _ (n : Namespace) (p : Path) (s : Stands Nothing n) (may : MayGo n p) whe
   left-point place d l e =
       let point = (slice_index_or n.mounts place d).point in
       let rest : Path = drop (length (covered_mount n point).point) point in
-      let before = s.folders.points place d l in
-      let apart : is_prefix rest (rest_of n p) ≡ false = point-apart n place d p s.folders l (sym e) in
+      let before = s.working_directories.points place d l in
+      let apart : is_prefix rest (rest_of n p) ≡ false = point-apart n place d p s.working_directories l (sym e) in
       let old : node_in (tree_at n p) rest ≡ Some node.Dir = sym (ap (λ k. node_in (tree_of n k) rest) e) ∙ before.0 in
       let none : list_any (λ entry. is_below rest entry.0) (tree_at n p) ≡ false = sym (ap (λ k. list_any (λ entry. is_below rest entry.0) (tree_of n k)) e) ∙ before.1 in
       let other : rest ≢ rest_of n p = λ x. let yes : is_prefix rest (rest_of n p) ≡ true = ap (is_prefix rest) (sym x) ∙ prefix-itself rest in absurd (cc) in
@@ -62,7 +62,7 @@ module _ (n : Namespace) (p : Path) (s : Stands Nothing n) (may : MayGo n p) whe
   left-may : MayStand n (number_at n p) (without (rest_of n p) (tree_at n p))
   unfolding without_node
   left-may =
-      let covering = covering-number n p s.folders in
+      let covering = covering-number n p s.working_directories in
       record {
         small = covering.0;
         mounted = covering.1;
@@ -70,7 +70,7 @@ module _ (n : Namespace) (p : Path) (s : Stands Nothing n) (may : MayGo n p) whe
         linked = λ q id kind h. s.live.linked (number_at n p) q id kind (left-file q id kind h).1;
         within = λ a b id same kind like h k r. (s.alone (number_at n p) (number_at n p) a b id same kind like (left-file a id kind h).1 (left-file b same like k).1 r).1;
         across = λ other a b id same kind like e h k r. e (sym (s.alone (number_at n p) other a b id same kind like (left-file a id kind h).1 k r).0);
-        folders = λ k. ap is_dir_node (taken-other n p (standing-apart n s.folders) (subst (λ x. number_at n p < x) (sym s.sizes.trees) covering.0) (folder_of n k) (may.folders k)) ∙ s.folders.folders k;
+        working_directories = λ k. ap is_dir_node (taken-other n p (standing-apart n s.working_directories) (subst (λ x. number_at n p < x) (sym s.sizes.trees) covering.0) (folder_of n k) (may.working_directories k)) ∙ s.working_directories.working_directories k;
         points = left-point;
       }
 
@@ -85,7 +85,7 @@ module _ (n : Namespace) (p : Path) (s : Stands Nothing n) (may : MayGo n p) whe
       found (inl e) =
           let here : value_at path_cmp linked.path (tree_at n p) ≡ Some (node.File linked.id linked.kind) = sym (ap (λ k. value_at path_cmp linked.path (tree_of n k)) e) ∙ linked.there in
           ap (λ k. value_at path_cmp linked.path (tree_of (with_tree n (number_at n p) (without (rest_of n p) (tree_at n p))) k)) e
-          ∙ ap (value_at path_cmp linked.path) (tree-own n (number_at n p) _ s.sizes.trees (covering-number n p s.folders).0)
+          ∙ ap (value_at path_cmp linked.path) (tree-own n (number_at n p) _ s.sizes.trees (covering-number n p s.working_directories).0)
           ∙ at-without-other (rest_of n p) linked.path (tree_at n p) (other e) ∙ here
 
   same-file : (id same : FileId) (kind like : Kind) → Some (node.File id kind) ≡ Some (node.File same like) → id ≡ same

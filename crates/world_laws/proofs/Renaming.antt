@@ -38,7 +38,7 @@ pub record MayRename (n : Namespace) (old new : Path) : Type 0 where
   pub clear : HasNoPoint n new
   pub empty : has_nodes n new ≡ false
   -- no session's working directory is old or new, or lies below one of them
-  pub folders : (k : ℕ) → (is_prefix old (folder_of n k) ≡ false) × (is_prefix new (folder_of n k) ≡ false)
+  pub working_directories : (k : ℕ) → (is_prefix old (folder_of n k) ≡ false) × (is_prefix new (folder_of n k) ≡ false)
 
 module _ (n : Namespace) (old new : Path) (s : Stands Nothing n) (may : MayRename n old new) where
   ro : Path
@@ -65,7 +65,7 @@ module _ (n : Namespace) (old new : Path) (s : Stands Nothing n) (may : MayRenam
   rest-apart front m r e h = elim (true-or-false (is_prefix (rest_of n front) r)) [
     | inr k ↦ k
     | inl k ↦
-        let whole : front ≡ m.point ++ rest_of n front = splits n front s.folders ∙ ap (λ x. x.point ++ rest_of n front) e in
+        let whole : front ≡ m.point ++ rest_of n front = splits n front s.working_directories ∙ ap (λ x. x.point ++ rest_of n front) e in
         let yes : is_prefix front (m.point ++ r) ≡ true = subst (λ x. is_prefix x (m.point ++ r) ≡ true) (sym whole) (prefix-append-both m.point (rest_of n front) r k) in
         absurd (cc)
   ]
@@ -103,11 +103,11 @@ module _ (n : Namespace) (old new : Path) (s : Stands Nothing n) (may : MayRenam
       let point = (slice_index_or n.mounts place d).point in
       let cm = covered_mount n point in
       let rest : Path = drop (length cm.point) point in
-      let before = s.folders.points place d l in
-      let c = point-covers n place d s.folders l in
-      let under : is_prefix rest (rest_of n new) ≡ false = point-apart n place d new s.folders l (sym may.one ∙ sym e) in
-      let own : covering_mount n old ≡ cm = one-number n (covering_mount n old) cm s.folders (covering-is n old s.folders) c.mount (sym e) in
-      let also : covering_mount n new ≡ cm = one-number n (covering_mount n new) cm s.folders (covering-is n new s.folders) c.mount (sym may.one ∙ sym e) in
+      let before = s.working_directories.points place d l in
+      let c = point-covers n place d s.working_directories l in
+      let under : is_prefix rest (rest_of n new) ≡ false = point-apart n place d new s.working_directories l (sym may.one ∙ sym e) in
+      let own : covering_mount n old ≡ cm = one-number n (covering_mount n old) cm s.working_directories (covering-is n old s.working_directories) c.mount (sym e) in
+      let also : covering_mount n new ≡ cm = one-number n (covering_mount n new) cm s.working_directories (covering-is n new s.working_directories) c.mount (sym may.one ∙ sym e) in
       let split : point ≡ cm.point ++ rest = prefix-splits cm.point point c.prefix in
       let no-old : is_prefix old (cm.point ++ rest) ≡ false = subst (λ x. is_prefix old x ≡ false) split (no-place (λ mount. is_prefix old mount.point) (all_mounts n) (suc place) d may.plain (omega (arith, l))) in
       let no-new : is_prefix new (cm.point ++ rest) ≡ false = subst (λ x. is_prefix new x ≡ false) split (no-place (λ mount. is_prefix new mount.point) (all_mounts n) (suc place) d may.clear (omega (arith, l))) in
@@ -119,14 +119,14 @@ module _ (n : Namespace) (old new : Path) (s : Stands Nothing n) (may : MayRenam
 
   moved-folder : (k : ℕ) → is_folder (with_moved n old new) (folder_of n k) ≡ true
   moved-folder k =
-      let fits : number_at n old < length n.trees = subst (λ x. number_at n old < x) (sym s.sizes.trees) (covering-number n old s.folders).0 in
-      ap is_dir_node (renamed-beside n old new (standing-apart n s.folders) may.one fits (t-true _ (s.trees (number_at n old)).sorted) may.plain may.clear may.empty
-      (folder_of n k) (may.folders k).1 (may.folders k).0) ∙ s.folders.folders k
+      let fits : number_at n old < length n.trees = subst (λ x. number_at n old < x) (sym s.sizes.trees) (covering-number n old s.working_directories).0 in
+      ap is_dir_node (renamed-beside n old new (standing-apart n s.working_directories) may.one fits (t-true _ (s.trees (number_at n old)).sorted) may.plain may.clear may.empty
+      (folder_of n k) (may.working_directories k).1 (may.working_directories k).0) ∙ s.working_directories.working_directories k
 
   moved-may : MayStand n (number_at n old) (moved (rest_of n old) (rest_of n new) (tree_at n old))
   unfolding with_moved
   moved-may =
-      let covering = covering-number n old s.folders in
+      let covering = covering-number n old s.working_directories in
       record {
         small = covering.0;
         mounted = covering.1;
@@ -137,7 +137,7 @@ module _ (n : Namespace) (old new : Path) (s : Stands Nothing n) (may : MayRenam
             (s.alone (number_at n old) (number_at n old) (file-source a id kind h).path (file-source b same like k).path id same kind like (file-source a id kind h).there (file-source b same like k).there r).1;
         across = λ other a b id same kind like e h k r.
             e (sym (s.alone (number_at n old) other (file-source a id kind h).path b id same kind like (file-source a id kind h).there k r).0);
-        folders = moved-folder;
+        working_directories = moved-folder;
         points = moved-point;
       }
 
@@ -148,7 +148,7 @@ module _ (n : Namespace) (old new : Path) (s : Stands Nothing n) (may : MayRenam
     where
       own : (p : Path) (found : NodeKind) → value_at path_cmp p (moved (rest_of n old) (rest_of n new) (tree_at n old)) ≡ Some found →
           value_at path_cmp p (tree_of (with_tree n (number_at n old) (moved (rest_of n old) (rest_of n new) (tree_at n old))) (number_at n old)) ≡ Some found
-      own p found h = ap (value_at path_cmp p) (tree-own n (number_at n old) (moved (rest_of n old) (rest_of n new) (tree_at n old)) s.sizes.trees (covering-number n old s.folders).0) ∙ h
+      own p found h = ap (value_at path_cmp p) (tree-own n (number_at n old) (moved (rest_of n old) (rest_of n new) (tree_at n old)) s.sizes.trees (covering-number n old s.working_directories).0) ∙ h
 
       stays : (p : Path) → value_at path_cmp p (moved (rest_of n old) (rest_of n new) (tree_at n old)) ≡ Some (node.File linked.id linked.kind) → Linked (with_moved n old new) row
       stays p h = record { number = number_at n old; path = p; id = linked.id; kind = linked.kind; there = own p (node.File linked.id linked.kind) h; is = linked.is }

@@ -18,7 +18,7 @@ use Rattle.vfs_model.specs.declared.namespace.LiveFile.{LiveFile}
 use Rattle.vfs_model.specs.declared.namespace.Mount.{Mount}
 use Rattle.vfs_model.specs.declared.namespace.Namespace.{Namespace}
 use Rattle.vfs_model.specs.declared.namespace.RowChange.{RowChange}
-use Rattle.vfs_model.specs.declared.world.World.{World}
+use Rattle.vfs_model.specs.declared.world.WorldState.{WorldState}
 use Rattle.world_laws.proofs.Agreeing.{Agrees, agrees-beside}
 use Rattle.world_laws.proofs.Emptying.{Empty, InRows, empty-all, twice}
 use Rattle.world_laws.proofs.Leaving.{rows-in, rows-left}
@@ -37,7 +37,7 @@ pub record AtRest (n : Namespace) : Type 0 where
 pub record Ended (n : Namespace) (changes : List RowChange) (out : Rows) : Type 0 where
   pub stands : Stands Nothing out.next
   pub pages : (volume cell : ℕ) → cell_capacity out.next volume cell ≡ cell_capacity n volume cell
-  pub files : (v : World) → Agrees (fold change_row v changes) n → Agrees (fold change_row v out.changes) out.next
+  pub files : (v : WorldState) → Agrees (fold change_row v changes) n → Agrees (fold change_row v out.changes) out.next
 
 abbrev lone : Namespace → Namespace
 lone m = record m { mounts = [] }
@@ -48,8 +48,8 @@ bare m = with_tree (record m { mounts = [] }) m.root.number []
 module _ (m : Namespace) (s : Stands Nothing (lone m)) (rest : AtRest (lone m)) where
   all-bare : (number : ℕ) → tree_of (bare m) number ≡ []
   all-bare number = elim (same-or-other number m.root.number) [
-    | inl e ↦ ap (tree_of (bare m)) e ∙ set-here m.trees m.root.number [] [] (let l = s.sizes.trees in let z = s.folders.root.1 in omega (arith, l, z))
-    | inr h ↦ set-there m.trees m.root.number number [] [] h ∙ s.folders.unused number (ap (λ b. b || false) (other-number m.root.number number (λ e. h (sym e))))
+    | inl e ↦ ap (tree_of (bare m)) e ∙ set-here m.trees m.root.number [] [] (let l = s.sizes.trees in let z = s.working_directories.root.1 in omega (arith, l, z))
+    | inr h ↦ set-there m.trees m.root.number number [] [] h ∙ s.working_directories.unused number (ap (λ b. b || false) (other-number m.root.number number (λ e. h (sym e))))
   ]
 
   nothing-there : (number : ℕ) (path : Path) (found : NodeKind) → value_at path_cmp path (tree_of (bare m) number) ≡ Some found → ⊥
@@ -57,7 +57,7 @@ module _ (m : Namespace) (s : Stands Nothing (lone m)) (rest : AtRest (lone m)) 
 
   -- each live file is one of `/`
   own-mount : (row : ℕ) (life : LiveFile) → life_at m row ≡ Some life → (life.mount ≡ m.root.number) × (fits_mount (lone m) life m.root ≡ true)
-  own-mount row life h = by (m.root.number == life.mount) refl (s.lives row life h)
+  own-mount row life h = by (m.root.number == life.mount) refl (s.live_files row life h)
     where
       by : (b : Bool) → (m.root.number == life.mount) ≡ b → IsSomeAnd (mount_numbered (lone m) life.mount) (λ mount. fits_mount (lone m) life mount ≡ true) → (life.mount ≡ m.root.number) × (fits_mount (lone m) life m.root ≡ true)
       by true e k = (sym (same-number m.root.number life.mount e), subst (λ b. IsSomeAnd (if b then Some m.root else None) (λ mount. fits_mount (lone m) life mount ≡ true)) e k)
@@ -74,7 +74,7 @@ module _ (m : Namespace) (s : Stands Nothing (lone m)) (rest : AtRest (lone m)) 
         | inl h ↦
             let is : m.root.fs ≡ fs.Cell = cell-kind-is life volume cell m.root.fs (on-cell volume cell life.backing h) (sym (ap fits_kind e) ∙ s.boxes.kinds row)
             (and-first (same_kind life.kind (kind_of m.root.fs)) _ (own-mount row life e).1) in
-            let not = s.folders.root.2 in
+            let not = s.working_directories.root.2 in
             absurd (cc)
       ]
 
@@ -82,26 +82,26 @@ module _ (m : Namespace) (s : Stands Nothing (lone m)) (rest : AtRest (lone m)) 
   unfolding node_at covering_mount
   bare-folder p e =
       ap (λ q. is_dir_node (node_in (tree_of (bare m) m.root.number) (drop (length m.root.point) q))) e
-      ∙ ap (λ q. is_dir_node (node_in (tree_of (bare m) m.root.number) (drop (length q) []))) s.folders.root.0
+      ∙ ap (λ q. is_dir_node (node_in (tree_of (bare m) m.root.number) (drop (length q) []))) s.working_directories.root.0
 
-  bare-folders : FoldersStand (bare m)
-  bare-folders = record {
-    folders = λ k. bare-folder (folder_of m k) (rest.home k);
-    short = s.folders.short;
-    root = s.folders.root;
+  bare-working_directories : FoldersStand (bare m)
+  bare-working_directories = record {
+    working_directories = λ k. bare-folder (folder_of m k) (rest.home k);
+    short = s.working_directories.short;
+    root = s.working_directories.root;
     points = λ place d l. absurd (omega (arith, l));
-    points_differ = s.folders.points_differ;
-    numbers_differ = s.folders.numbers_differ;
-    numbers = s.folders.numbers;
-    nested = s.folders.nested;
+    points_differ = s.working_directories.points_differ;
+    numbers_differ = s.working_directories.numbers_differ;
+    numbers = s.working_directories.numbers;
+    nested = s.working_directories.nested;
     unused = λ number h. all-bare number;
   }
 
   bare-row : (row : ℕ) (life : LiveFile) → 0 < row → life_at m row ≡ Some life → InRows (rows_of_mount m m.root.number) row
   bare-row row life l h =
-      let within = some-within m.lives (row - 1) life h in
+      let within = some-within m.live_files (row - 1) life h in
       subst (InRows (rows_of_mount m m.root.number)) (omega (arith, l))
-      (rows-in m.root.number 1 (row - 1) m.lives within (ap (is_of_mount m.root.number) h ∙ ap (λ k. k == m.root.number) (own-mount row life h).0 ∙ number-itself m.root.number))
+      (rows-in m.root.number 1 (row - 1) m.live_files within (ap (is_of_mount m.root.number) h ∙ ap (λ k. k == m.root.number) (own-mount row life h).0 ∙ number-itself m.root.number))
 
   bare-empty : Empty m.root.number (bare m) (rows_of_mount m m.root.number)
   bare-empty = record {
@@ -112,14 +112,14 @@ module _ (m : Namespace) (s : Stands Nothing (lone m)) (rest : AtRest (lone m)) 
       };
       used = λ row l h. used row l (life_at m row) refl h;
       alone = λ a b p q id same kind like h k r. absurd (nothing-there a p (node.File id kind) h);
-      folders = bare-folders;
+      working_directories = bare-working_directories;
       trees = λ number. subst (IsClosedTree is_dir_node) (sym (all-bare number)) empty-closed;
       roms = s.roms;
       sizes = record {
-        lives = s.sizes.lives;
+        live_files = s.sizes.live_files;
         generations = s.sizes.generations;
         trees = length-set m.trees m.root.number [] ∙ s.sizes.trees;
-        folders = s.sizes.folders;
+        working_directories = s.sizes.working_directories;
         mounts = s.sizes.mounts;
         references = s.sizes.references;
       };
@@ -127,9 +127,9 @@ module _ (m : Namespace) (s : Stands Nothing (lone m)) (rest : AtRest (lone m)) 
     boxes = record { spares = s.boxes.spares; kinds = s.boxes.kinds; mounted = s.boxes.mounted; kept = s.boxes.kept; sources_differ = s.boxes.sources_differ; named = s.boxes.named };
     devices = s.boxes.devices;
     cells = λ volume cell v c. let placed = s.boxes.cells volume cell v c in let none = no-cell-rows volume cell in omega (arith, placed, none);
-    lives = λ row life h other. absurd (other (own-mount row life h).0);
+    live_files = λ row life h other. absurd (other (own-mount row life h).0);
     whole = λ row life l h e. bare-row row life l h;
-    rows = rows-left m.root.number 1 (bare m) m.lives (omega arith) (let e = s.sizes.lives in omega (arith, e)) (λ k l. ap (λ x. slice_index_or m.lives x None) (omega arith));
+    rows = rows-left m.root.number 1 (bare m) m.live_files (omega arith) (let e = s.sizes.live_files in omega (arith, e)) (λ k l. ap (λ x. slice_index_or m.live_files x None) (omega arith));
     unlinked = λ row i linked u. nothing-there linked.number linked.path (node.File linked.id linked.kind) linked.there;
     unheld = λ row i held u. let none = rest.unheld held.place in let some = held.there in both (slice_index_or m.references held.place None) held.reference none some;
   }
@@ -146,7 +146,7 @@ module _ (m : Namespace) (s : Stands Nothing (lone m)) (rest : AtRest (lone m)) 
 
   root-rows : (changes : List RowChange) → empty_mount (record { next = lone m; changes = changes }) m.root ≡ fold (free_row end_of_unmounted) (record { next = bare m; changes = changes }) (rows_of_mount m m.root.number)
   unfolding empty_mount
-  root-rows changes = ap (λ f. fold (free_row end_of_unmounted) (record { next = with_tree (keep_names (lone m) m.root f) m.root.number []; changes = changes }) (rows_of_mount m m.root.number)) s.folders.root.2
+  root-rows changes = ap (λ f. fold (free_row end_of_unmounted) (record { next = with_tree (keep_names (lone m) m.root f) m.root.number []; changes = changes }) (rows_of_mount m m.root.number)) s.working_directories.root.2
 
   lone-ended : (changes : List RowChange) → Ended (lone m) changes (empty_mount (record { next = lone m; changes = changes }) m.root)
   lone-ended changes =

@@ -60,7 +60,7 @@ module _ (m : Namespace) (front : List Mount) (last : Mount) (s : Stands Nothing
   earlier : (place : ℕ) (d : Mount) → place < suc (length front) → (slice_index_or (all_mounts m) place d).number ≢ last.number
   earlier place d l h =
       let n = long in
-      let same = s.folders.numbers_differ place (suc (length front)) d (omega (arith, l, n)) (omega (arith, n)) (h ∙ sym (ap (λ x. x.number) (last-at d))) in
+      let same = s.working_directories.numbers_differ place (suc (length front)) d (omega (arith, l, n)) (omega (arith, n)) (h ∙ sym (ap (λ x. x.number) (last-at d))) in
       omega (arith, same, l)
 
   none-below : has_mount_below m last.point ≡ false
@@ -72,7 +72,7 @@ module _ (m : Namespace) (front : List Mount) (last : Mount) (s : Stands Nothing
         elim (below-or-past at.place (suc (length front))) [
           | inl l ↦
               let n = long in
-              let none = s.folders.nested at.place (suc (length front)) last l (omega (arith, n)) in
+              let none = s.working_directories.nested at.place (suc (length front)) last l (omega (arith, n)) in
               let same = ap (λ x. is_below x.point (slice_index_or (all_mounts m) at.place last).point) (last-at last) in
               let yes = at.holds in
               absurd (cc)
@@ -128,7 +128,7 @@ module _ (m : Namespace) (front : List Mount) (last : Mount) (s : Stands Nothing
   still-rest : (changes : List RowChange) → AtRest (remove_mount (record { next = m; changes = changes }) last).next
   still-rest changes = record {
     unheld = λ place. ap (λ references. slice_index_or references place None) (gone changes).references ∙ rest.unheld place;
-    home = λ k. ap (λ folders. slice_index_or folders (k - 1) []) (gone changes).folders ∙ rest.home k;
+    home = λ k. ap (λ working_directories. slice_index_or working_directories (k - 1) []) (gone changes).working_directories ∙ rest.home k;
   }
 
 -- all mounts are removed, the last one first
@@ -188,9 +188,9 @@ at-rest n h = record {
     | inl l ↦ none-of (slice_index_or n.references place None) (all-places is_none n.references place None (and-first (list_all is_none n.references) _ h) l)
     | inr l ↦ get_or_past n.references place None l
   ];
-  home = λ k. elim (below-or-past (k - 1) (length n.folders)) [
-    | inl l ↦ empty-path (folder_of n k) (all-places (same_path []) n.folders (k - 1) [] (and-second (list_all is_none n.references) _ h) l)
-    | inr l ↦ get_or_past n.folders (k - 1) [] l
+  home = λ k. elim (below-or-past (k - 1) (length n.working_directories)) [
+    | inl l ↦ empty-path (folder_of n k) (all-places (same_path []) n.working_directories (k - 1) [] (and-second (list_all is_none n.references) _ h) l)
+    | inr l ↦ get_or_past n.working_directories (k - 1) [] l
   ];
 }
 
@@ -207,16 +207,16 @@ stopped-stands n s = record {
   };
   used = s.used;
   alone = s.alone;
-  folders = record {
-    folders = s.folders.folders;
-    short = s.folders.short;
-    root = s.folders.root;
-    points = s.folders.points;
-    points_differ = s.folders.points_differ;
-    numbers_differ = s.folders.numbers_differ;
-    numbers = s.folders.numbers;
-    nested = s.folders.nested;
-    unused = s.folders.unused;
+  working_directories = record {
+    working_directories = s.working_directories.working_directories;
+    short = s.working_directories.short;
+    root = s.working_directories.root;
+    points = s.working_directories.points;
+    points_differ = s.working_directories.points_differ;
+    numbers_differ = s.working_directories.numbers_differ;
+    numbers = s.working_directories.numbers;
+    nested = s.working_directories.nested;
+    unused = s.working_directories.unused;
   };
   trees = s.trees;
   boxes = record {
@@ -229,13 +229,13 @@ stopped-stands n s = record {
     sources_differ = s.boxes.sources_differ;
     named = s.boxes.named;
   };
-  lives = s.lives;
+  live_files = s.live_files;
   roms = s.roms;
   sizes = record {
-    lives = s.sizes.lives;
+    live_files = s.sizes.live_files;
     generations = s.sizes.generations;
     trees = s.sizes.trees;
-    folders = s.sizes.folders;
+    working_directories = s.sizes.working_directories;
     mounts = s.sizes.mounts;
     references = s.sizes.references;
   };

@@ -14,7 +14,7 @@ use Rattle.vfs_model.specs.Lookup.{is_dir_node}
 use Rattle.vfs_model.specs.Namespace.{Tree, generation_at, life_at, tree_of}
 use Rattle.vfs_model.specs.declared.namespace.Namespace.{Namespace}
 use Rattle.vfs_model.specs.declared.namespace.Reference.{Reference}
-use Rattle.vfs_model.specs.declared.world.World.{World}
+use Rattle.vfs_model.specs.declared.world.WorldState.{WorldState}
 use Rattle.world_laws.proofs.Lists.{any-node, any-place, node-any, or-either, or-first, or-second, place-any, same-number, number-itself, some-within, below-or-past}
 use Rattle.std.proofs.lemmas.List.{get_or_past}
 
@@ -42,10 +42,10 @@ Held n row = HeldIn n.references row
 
 -- the lists of a namespace have their places
 pub record NamespaceSizes (n : Namespace) : Type 0 where
-  pub lives : length n.lives ≡ 1024
+  pub live_files : length n.live_files ≡ 1024
   pub generations : length n.generations ≡ 1024
   pub trees : length n.trees ≡ 16
-  pub folders : length n.folders ≡ 8
+  pub working_directories : length n.working_directories ≡ 8
   pub mounts : length n.mounts ≤ 15
   pub references : length n.references ≡ 256
 
@@ -60,10 +60,10 @@ pub record Stands (Excused : ℕ → Type 0) (n : Namespace) : Type 0 where
       value_at path_cmp p (tree_of n number) ≡ Some (node.File id kind) →
       value_at path_cmp q (tree_of n other) ≡ Some (node.File same like) →
       id.row ≡ same.row → (number ≡ other) × (p ≡ q)
-  pub folders : FoldersStand n
+  pub working_directories : FoldersStand n
   pub trees : (number : ℕ) → IsClosedTree is_dir_node (tree_of n number)
   pub boxes : BoxesPlaced n
-  pub lives : LivesFit n
+  pub live_files : LivesFit n
   pub roms : RomsClosed n.roms
   pub sizes : NamespaceSizes n
 
@@ -131,45 +131,45 @@ used-again n trees row one h (inl linked) = inl linked
 used-again n trees row one h (inr (inl held)) = inr (inl held)
 used-again n trees row one h (inr (inr e)) = subst (IsUsed Nothing n) (sym e) (used-of n trees one h)
 
-pub stands-of : (w : World) → IsConsistent w → Stands Nothing w.namespace
+pub stands-of : (w : WorldState) → IsConsistent w → Stands Nothing w.namespace
 stands-of w c = record {
   live = c.references_live;
   used = λ row l h. used-of w.namespace c.trees_closed row (c.rows_used.used row l h);
   alone = c.rows_used.alone;
-  folders = c.folders_stand;
+  working_directories = c.folders_stand;
   trees = c.trees_closed;
   boxes = c.boxes_placed;
-  lives = c.lives_fit;
+  live_files = c.live_files_fit;
   roms = c.roms_closed;
   sizes = record {
-    lives = c.sizes.lives;
+    live_files = c.sizes.live_files;
     generations = c.sizes.generations;
     trees = c.sizes.trees;
-    folders = c.sizes.folders;
+    working_directories = c.sizes.working_directories;
     mounts = c.sizes.mounts;
     references = c.references_bounded;
   };
 }
 
-pub consistent-of : (w : World) → Stands Nothing w.namespace →
+pub consistent-of : (w : WorldState) → Stands Nothing w.namespace →
     ((row : ℕ) → agrees (life_at w.namespace row) (generation_at w.namespace row) (file_at w row) ≡ true) → CellsFit w → length w.files ≡ 1024 → IsConsistent w
 consistent-of w s agree fit files = record {
   rows_agree = agree;
   references_live = s.live;
   rows_used = record { used = λ row l h. used-is w.namespace row (s.used row l h); alone = s.alone };
   references_bounded = s.sizes.references;
-  folders_stand = s.folders;
+  folders_stand = s.working_directories;
   trees_closed = s.trees;
   boxes_placed = s.boxes;
-  lives_fit = s.lives;
+  live_files_fit = s.live_files;
   cells_fit = fit;
   roms_closed = s.roms;
   sizes = record {
     files = files;
-    lives = s.sizes.lives;
+    live_files = s.sizes.live_files;
     generations = s.sizes.generations;
     trees = s.sizes.trees;
-    folders = s.sizes.folders;
+    working_directories = s.sizes.working_directories;
     mounts = s.sizes.mounts;
   };
 }

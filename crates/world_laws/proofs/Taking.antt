@@ -46,7 +46,7 @@ CellsPlaced n = (volume cell : ℕ) → volume < length n.volumes → cell < len
     cell_files n volume cell + one_if (slice_index_or (volume_at n volume).spare cell false) ≡ 1
 
 abbrev pub DevicesPlaced : Namespace → Type 0
-DevicesPlaced n = (device : ℕ) → device < length n.devices → count_by (is_backed_by (lies_on_device device)) n.lives ≡ one_if (slice_index_or n.devices device no_device).is_out
+DevicesPlaced n = (device : ℕ) → device < length n.devices → count_by (is_backed_by (lies_on_device device)) n.live_files ≡ one_if (slice_index_or n.devices device no_device).is_out
 
 pub boxes-but : (n : Namespace) → BoxesPlaced n → BoxesBut n
 boxes-but n boxes = record { spares = boxes.spares; kinds = boxes.kinds; mounted = boxes.mounted; kept = boxes.kept; sources_differ = boxes.sources_differ; named = boxes.named }
@@ -103,12 +103,12 @@ but-device b n device boxes = record { spares = boxes.spares; kinds = boxes.kind
 
 -- a row becomes a live file, or free
 abbrev pub with_life : Namespace → ℕ → Option LiveFile → List ℕ → Namespace
-with_life n row found generations = record n { lives = slice_set n.lives (row - 1) found; generations = generations }
+with_life n row found generations = record n { live_files = slice_set n.live_files (row - 1) found; generations = generations }
 
 pub but-life : (n : Namespace) (row : ℕ) (found : Option LiveFile) (generations : List ℕ) → fits_kind found ≡ true → BoxesBut n → BoxesBut (with_life n row found generations)
 but-life n row found generations fits boxes = record {
   spares = boxes.spares;
-  kinds = λ other. set-at (λ life. fits_kind life ≡ true) n.lives (row - 1) (other - 1) found None (λ e. fits) (boxes.kinds other);
+  kinds = λ other. set-at (λ life. fits_kind life ≡ true) n.live_files (row - 1) (other - 1) found None (λ e. fits) (boxes.kinds other);
   mounted = boxes.mounted;
   kept = boxes.kept;
   sources_differ = boxes.sources_differ;
@@ -130,4 +130,4 @@ spare-here b n volume cell l m =
 
 -- how many files a cell has is counted over lives and kept names
 pub cell-files : (b : Bool) (n : Namespace) (volume cell other at : ℕ) → cell_files (with_cell b n volume cell) other at ≡ cell_files n other at
-cell-files b n volume cell other at = ap (λ names. count_by (is_backed_by (lies_on_cell other at)) n.lives + count_by (λ entry. is_kept_on at entry.1) names) (cell-kept b n volume cell other)
+cell-files b n volume cell other at = ap (λ names. count_by (is_backed_by (lies_on_cell other at)) n.live_files + count_by (λ entry. is_kept_on at entry.1) names) (cell-kept b n volume cell other)

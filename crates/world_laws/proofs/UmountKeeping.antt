@@ -37,10 +37,10 @@ found-at p (y ∷ xs) x h = by (p y) refl h (found-at p xs x)
 -- `/` covers itself
 pub root-covers : (n : Namespace) (s : Stands Nothing n) → covering_mount n [] ≡ n.root
 root-covers n s =
-    let own = covers-prefix n [] s.folders in
+    let own = covers-prefix n [] s.working_directories in
     let short = prefix-length (covering_mount n []).point [] own in
     let empty : (covering_mount n []).point ≡ [] = same-prefix (covering_mount n []).point [] [] own refl (omega (arith, short)) in
-    one-point n (covering_mount n []) n.root s.folders (covering-is n [] s.folders) (record { place = 0; within = omega arith; is = refl }) (empty ∙ sym s.folders.root.0)
+    one-point n (covering_mount n []) n.root s.working_directories (covering-is n [] s.working_directories) (record { place = 0; within = omega arith; is = refl }) (empty ∙ sym s.working_directories.root.0)
 
 lone-covers : (n : Namespace) (p : Path) → covering_mount (record n { mounts = [] }) p ≡ n.root
 unfolding covering_mount
@@ -57,14 +57,14 @@ root-busy n s free = by n.mounts refl
     below : has_mount_below n n.root.point ≡ false
     below = nor-first (has_mount_below n n.root.point) _ (nor-first (has_mount_below n n.root.point || list_any (refers_to_mount n.root.number) n.references) _ free)
 
-    away : list_any (λ folder. (covering_mount n folder).number == n.root.number) n.folders ≡ false
+    away : list_any (λ folder. (covering_mount n folder).number == n.root.number) n.working_directories ≡ false
     away = nor-second (has_mount_below n n.root.point || list_any (refers_to_mount n.root.number) n.references) _ free
 
     by : (mounts : List Mount) → n.mounts ≡ mounts → ⊥
     by [] e =
-        let first : list_any (λ folder. (covering_mount n folder).number == n.root.number) n.folders ≡ true =
-        place-any (λ folder. (covering_mount n folder).number == n.root.number) n.folders 0 [] (let l = s.sizes.folders in omega (arith, l))
-        (ap (λ x. x.number == n.root.number) (alone (slice_index_or n.folders 0 [])) ∙ number-itself n.root.number) in
+        let first : list_any (λ folder. (covering_mount n folder).number == n.root.number) n.working_directories ≡ true =
+        place-any (λ folder. (covering_mount n folder).number == n.root.number) n.working_directories 0 [] (let l = s.sizes.working_directories in omega (arith, l))
+        (ap (λ x. x.number == n.root.number) (alone (slice_index_or n.working_directories 0 [])) ∙ number-itself n.root.number) in
         both first away
       where
         alone : (p : Path) → covering_mount n p ≡ n.root
@@ -74,11 +74,11 @@ root-busy n s free = by n.mounts refl
         let inside : 1 < length (all_mounts n) = ap-length in
         let at : slice_index_or (all_mounts n) 1 n.root ≡ m = ap (λ ms. slice_index_or (n.root ∷ ms) 1 n.root) e in
         let differ : m.point ≢ [] = λ h.
-        let same : 1 ≡ 0 = s.folders.points_differ 1 0 n.root inside long (ap (λ x. x.point) at ∙ h ∙ sym s.folders.root.0) in
+        let same : 1 ≡ 0 = s.working_directories.points_differ 1 0 n.root inside long (ap (λ x. x.point) at ∙ h ∙ sym s.working_directories.root.0) in
         absurd (omega (arith, same)) in
         let none = no-place (λ x. is_below n.root.point x.point) (all_mounts n) 1 n.root below inside in
         let is : is_below [] m.point ≡ true = below-prefix [] m.point refl (longer m.point differ) in
-        let yes : is_below n.root.point (slice_index_or (all_mounts n) 1 n.root).point ≡ true = ap (λ x. is_below n.root.point x.point) at ∙ ap (λ p. is_below p m.point) s.folders.root.0 ∙ is in
+        let yes : is_below n.root.point (slice_index_or (all_mounts n) 1 n.root).point ≡ true = ap (λ x. is_below n.root.point x.point) at ∙ ap (λ p. is_below p m.point) s.working_directories.root.0 ∙ is in
         absurd (cc)
       where
         ap-length : 1 < length (all_mounts n)
@@ -95,19 +95,19 @@ may-leave n path mount s found free =
     let at = found-at (λ m. same_path m.point path) (all_mounts n) mount found in
     let is : IsMount n mount = record { place = at.place; within = at.within; is = at.is } in
     let other : n.root.number ≢ mount.number = λ e.
-    root-busy n s (subst (λ m. is_busy n m ≡ false) (one-number n mount n.root s.folders is (record { place = 0; within = omega arith; is = refl }) (sym e)) free) in
+    root-busy n s (subst (λ m. is_busy n m ≡ false) (one-number n mount n.root s.working_directories is (record { place = 0; within = omega arith; is = refl }) (sym e)) free) in
     let front = nor-first (has_mount_below n mount.point || list_any (refers_to_mount mount.number) n.references) _ free in
     record {
       is = is;
       other = other;
       alone = nor-first (has_mount_below n mount.point) _ front;
       free = nor-second (has_mount_below n mount.point) _ front;
-      away = λ k e. elim (below-or-past (length n.folders) (k - 1)) [
-        | inl l ↦ other (ap (λ m. m.number) (sym (root-covers n s)) ∙ sym (ap (λ p. (covering_mount n p).number) (get_or_past n.folders (k - 1) [] (omega (arith, l)))) ∙ e)
-        | inr l ↦ elim (same-or-other (k - 1) (length n.folders)) [
-          | inl past ↦ other (ap (λ m. m.number) (sym (root-covers n s)) ∙ sym (ap (λ p. (covering_mount n p).number) (get_or_past n.folders (k - 1) [] (omega (arith, past)))) ∙ e)
+      away = λ k e. elim (below-or-past (length n.working_directories) (k - 1)) [
+        | inl l ↦ other (ap (λ m. m.number) (sym (root-covers n s)) ∙ sym (ap (λ p. (covering_mount n p).number) (get_or_past n.working_directories (k - 1) [] (omega (arith, l)))) ∙ e)
+        | inr l ↦ elim (same-or-other (k - 1) (length n.working_directories)) [
+          | inl past ↦ other (ap (λ m. m.number) (sym (root-covers n s)) ∙ sym (ap (λ p. (covering_mount n p).number) (get_or_past n.working_directories (k - 1) [] (omega (arith, past)))) ∙ e)
           | inr within ↦
-              let none = no-place (λ folder. (covering_mount n folder).number == mount.number) n.folders (k - 1) []
+              let none = no-place (λ folder. (covering_mount n folder).number == mount.number) n.working_directories (k - 1) []
               (nor-second (has_mount_below n mount.point || list_any (refers_to_mount mount.number) n.references) _ free) (omega (arith, l, within)) in
               let yes : ((covering_mount n (folder_of n k)).number == mount.number) ≡ true = ap (λ x. x == mount.number) e ∙ number-itself mount.number in
               absurd (cc)

@@ -129,8 +129,8 @@ module _ (n : Namespace) (mount : Mount) (s : Stands Nothing n) (may : MayLeave 
   left-trees fs.Cell = refl
   left-trees fs.Dev = refl
 
-  pub left-same : (f : FsType) → ((left_by n mount f).lives ≡ n.lives) × ((left_by n mount f).generations ≡ n.generations) × ((left_by n mount f).references ≡ n.references)
-      × ((left_by n mount f).folders ≡ n.folders) × ((left_by n mount f).roms ≡ n.roms) × ((left_by n mount f).devices ≡ n.devices) × ((left_by n mount f).root ≡ n.root)
+  pub left-same : (f : FsType) → ((left_by n mount f).live_files ≡ n.live_files) × ((left_by n mount f).generations ≡ n.generations) × ((left_by n mount f).references ≡ n.references)
+      × ((left_by n mount f).working_directories ≡ n.working_directories) × ((left_by n mount f).roms ≡ n.roms) × ((left_by n mount f).devices ≡ n.devices) × ((left_by n mount f).root ≡ n.root)
       × ((left_by n mount f).mounts ≡ filter (stays mount.number) n.mounts)
   left-same fs.Tmp = (refl, refl, refl, refl, refl, refl, refl, refl)
   left-same fs.Rom = (refl, refl, refl, refl, refl, refl, refl, refl)
@@ -142,8 +142,8 @@ module _ (n : Namespace) (mount : Mount) (s : Stands Nothing n) (may : MayLeave 
   unfolding has_mount_below
   covered-other place d l e =
       let q = (slice_index_or n.mounts place d).point in
-      let c = point-covers n place d s.folders l in
-      let same : covered_mount n q ≡ mount = one-number n (covered_mount n q) mount s.folders c.mount may.is e in
+      let c = point-covers n place d s.working_directories l in
+      let same : covered_mount n q ≡ mount = one-number n (covered_mount n q) mount s.working_directories c.mount may.is e in
       let up : is_prefix mount.point q ≡ true = subst (λ x. is_prefix x.point q ≡ true) same c.prefix in
       let longer = prefix-length mount.point q up in
       let differ : length mount.point ≢ length q = λ k. c.other (ap (λ x. x.point) same ∙ same-prefix mount.point q q up (prefix-itself q) k) in
@@ -171,7 +171,7 @@ module _ (n : Namespace) (mount : Mount) (s : Stands Nothing n) (may : MayLeave 
       (subst (λ cm. (node_in (tree_of (left_by n mount f) cm.number) (drop (length cm.point) q) ≡ Some node.Dir)
       × (list_any (λ entry. is_below (drop (length cm.point) q) entry.0) (tree_of (left_by n mount f) cm.number) ≡ false)) (sym (left-covered f q other))
       (subst (λ t. (node_in t (drop (length (covered_mount n q).point) q) ≡ Some node.Dir) × (list_any (λ entry. is_below (drop (length (covered_mount n q).point) q) entry.0) t ≡ false)) (sym tree)
-      (s.folders.points was d within.0)))
+      (s.working_directories.points was d within.0)))
 
   -- a number of a mount that stays, or of none
   pub left-number : (f : FsType) (number : ℕ) → number ≢ mount.number → is_number n number ≡ true → is_number (left_by n mount f) number ≡ true
@@ -197,7 +197,7 @@ module _ (n : Namespace) (mount : Mount) (s : Stands Nothing n) (may : MayLeave 
               ∙ or-second (m.number == number) _ (later (sym (ap (λ x. x || list_any (λ m. m.number == number) mounts) b) ∙ e))
 
   small : mount.number < 16
-  small = subst (λ m. m.number < 16) may.is.is (s.folders.numbers may.is.place mount may.is.within)
+  small = subst (λ m. m.number < 16) may.is.is (s.working_directories.numbers may.is.place mount may.is.within)
 
   pub tree-gone : (f : FsType) → tree_of (left_by n mount f) mount.number ≡ []
   tree-gone f = ap (λ trees. slice_index_or trees mount.number []) (left-trees f) ∙ set-here n.trees mount.number [] [] (subst (λ x. mount.number < x) (sym s.sizes.trees) small)
@@ -208,28 +208,28 @@ module _ (n : Namespace) (mount : Mount) (s : Stands Nothing n) (may : MayLeave 
   left-unused : (f : FsType) (number : ℕ) → is_number (left_by n mount f) number ≡ false → tree_of (left_by n mount f) number ≡ []
   left-unused f number h = elim (same-or-other number mount.number) [
     | inl e ↦ ap (tree_of (left_by n mount f)) e ∙ tree-gone f
-    | inr e ↦ tree-stays f number e ∙ s.folders.unused number (elim (true-or-false (is_number n number)) [
+    | inr e ↦ tree-stays f number e ∙ s.working_directories.unused number (elim (true-or-false (is_number n number)) [
       | inl k ↦ let yes = left-number f number e k in absurd (cc)
       | inr k ↦ k
     ])
   ]
 
-  left-folders : (f : FsType) → FoldersStand (left_by n mount f)
-  left-folders f = record {
-    folders = λ k.
-        let same : folder_of (left_by n mount f) k ≡ folder_of n k = ap (λ folders. slice_index_or folders (k - 1) []) (left-same f).3 in
-        ap (is_folder (left_by n mount f)) same ∙ ap is_dir_node (left-node f (folder_of n k) ∙ unmounted-leaves n mount.number (folder_of n k) may.other (may.away k)) ∙ s.folders.folders k;
-    short = λ k. subst (λ folders. length (printed (slice_index_or folders (k - 1) [])) ≤ 1024) (sym (left-same f).3) (s.folders.short k);
-    root = subst (λ r. (r.point ≡ []) × (r.number ≡ 0) × (r.fs ≡ fs.Tmp)) (sym (left-same f).6) s.folders.root;
+  left-working_directories : (f : FsType) → FoldersStand (left_by n mount f)
+  left-working_directories f = record {
+    working_directories = λ k.
+        let same : folder_of (left_by n mount f) k ≡ folder_of n k = ap (λ working_directories. slice_index_or working_directories (k - 1) []) (left-same f).3 in
+        ap (is_folder (left_by n mount f)) same ∙ ap is_dir_node (left-node f (folder_of n k) ∙ unmounted-leaves n mount.number (folder_of n k) may.other (may.away k)) ∙ s.working_directories.working_directories k;
+    short = λ k. subst (λ working_directories. length (printed (slice_index_or working_directories (k - 1) [])) ≤ 1024) (sym (left-same f).3) (s.working_directories.short k);
+    root = subst (λ r. (r.point ≡ []) × (r.number ≡ 0) × (r.fs ≡ fs.Tmp)) (sym (left-same f).6) s.working_directories.root;
     points = left-points f;
-    points_differ = differ-left f (λ m. m.point) s.folders.points_differ;
-    numbers_differ = differ-left f (λ m. m.number) s.folders.numbers_differ;
-    numbers = λ place d l. let a = at-from f place d l in subst (λ m. m.number < 16) (sym a.1) (s.folders.numbers _ d a.0);
+    points_differ = differ-left f (λ m. m.point) s.working_directories.points_differ;
+    numbers_differ = differ-left f (λ m. m.number) s.working_directories.numbers_differ;
+    numbers = λ place d l. let a = at-from f place d l in subst (λ m. m.number < 16) (sym a.1) (s.working_directories.numbers _ d a.0);
     nested = λ place other d l m.
         let a = at-from f place d (omega (arith, l, m)) in
         let b = at-from f other d m in
         ap (λ x. is_below x.point (slice_index_or (all_mounts (left_by n mount f)) place d).point) b.1 ∙ ap (λ x. is_below (slice_index_or (all_mounts n) (kept_place (stays mount.number) (all_mounts n) other) d).point x.point) a.1
-        ∙ s.folders.nested (kept_place (stays mount.number) (all_mounts n) place) (kept_place (stays mount.number) (all_mounts n) other) d
+        ∙ s.working_directories.nested (kept_place (stays mount.number) (all_mounts n) place) (kept_place (stays mount.number) (all_mounts n) other) d
         (kept-rising (stays mount.number) (all_mounts n) place other l (subst (λ ms. other < length ms) (all-left f) m)) b.0;
     unused = left-unused f;
   }
@@ -238,12 +238,12 @@ module _ (n : Namespace) (mount : Mount) (s : Stands Nothing n) (may : MayLeave 
   rows = rows_of_mount n mount.number
 
   pub left-rows : RowsLeft mount.number n (rows_of_mount n mount.number)
-  left-rows = rows-left mount.number 1 n n.lives (omega arith) (let e = s.sizes.lives in omega (arith, e)) (λ k l. ap (λ x. slice_index_or n.lives x None) (omega arith))
+  left-rows = rows-left mount.number 1 n n.live_files (omega arith) (let e = s.sizes.live_files in omega (arith, e)) (λ k l. ap (λ x. slice_index_or n.live_files x None) (omega arith))
 
   pub row-of : (row : ℕ) (life : LiveFile) → 0 < row → life_at n row ≡ Some life → life.mount ≡ mount.number → InRows (rows_of_mount n mount.number) row
   row-of row life l h e =
-      let within = some-within n.lives (row - 1) life h in
-      subst (InRows (rows_of_mount n mount.number)) (omega (arith, l)) (rows-in mount.number 1 (row - 1) n.lives within (ap (is_of_mount mount.number) h ∙ ap (λ k. k == mount.number) e ∙ number-itself mount.number))
+      let within = some-within n.live_files (row - 1) life h in
+      subst (InRows (rows_of_mount n mount.number)) (omega (arith, l)) (rows-in mount.number 1 (row - 1) n.live_files within (ap (is_of_mount mount.number) h ∙ ap (λ k. k == mount.number) e ∙ number-itself mount.number))
 
   -- a row of the mount is a live file of it
   pub row-life : (row : ℕ) → InRows (rows_of_mount n mount.number) row → (life : LiveFile) × (life_at n row ≡ Some life) × (life.mount ≡ mount.number)
@@ -297,7 +297,7 @@ module _ (n : Namespace) (mount : Mount) (s : Stands Nothing n) (may : MayLeave 
   alive-left f id kind number live = record {
     row = live.row;
     generation = ap (λ generations. slice_index_or generations (id.row - 1) 0) (left-same f).1 ∙ live.generation;
-    life = subst (λ lives. IsSomeAnd (slice_index_or lives (id.row - 1) None) (λ life. (life.kind ≡ kind) × (life.mount ≡ number))) (sym (left-same f).0) live.life;
+    life = subst (λ live_files. IsSomeAnd (slice_index_or live_files (id.row - 1) None) (λ life. (life.kind ≡ kind) × (life.mount ≡ number))) (sym (left-same f).0) live.life;
   }
 
   left-live : (f : FsType) → ReferencesLive (left_by n mount f)
@@ -315,7 +315,7 @@ module _ (n : Namespace) (mount : Mount) (s : Stands Nothing n) (may : MayLeave 
 
   left-used : (f : FsType) (row : ℕ) → 0 < row → is_some (life_at (left_by n mount f) row) ≡ true → IsUsed (InRows (rows_of_mount n mount.number)) (left_by n mount f) row
   left-used f row l h =
-      named (s.used row l (sym (ap (λ lives. is_some (slice_index_or lives (row - 1) None)) (left-same f).0) ∙ h))
+      named (s.used row l (sym (ap (λ live_files. is_some (slice_index_or live_files (row - 1) None)) (left-same f).0) ∙ h))
     where
       named : IsUsed Nothing n row → IsUsed (InRows (rows_of_mount n mount.number)) (left_by n mount f) row
       named (inr (inr none)) = absurd none
@@ -338,15 +338,15 @@ module _ (n : Namespace) (mount : Mount) (s : Stands Nothing n) (may : MayLeave 
     used = left-used f;
     alone = λ a b p q id same kind like h k r.
         s.alone a b p q id same kind like (there-before f a p (node.File id kind) h).1 (there-before f b q (node.File same like) k).1 r;
-    folders = left-folders f;
+    working_directories = left-working_directories f;
     trees = λ number. subst (IsClosedTree is_dir_node) (sym (ap (λ trees. slice_index_or trees number []) (left-trees f)))
         (set-at (IsClosedTree is_dir_node) n.trees mount.number number [] [] (λ e. empty-closed-tree) (s.trees number));
     roms = subst (λ roms. RomsClosed roms) (sym (left-same f).4) s.roms;
     sizes = record {
-      lives = ap (λ xs. length xs) (left-same f).0 ∙ s.sizes.lives;
+      live_files = ap (λ xs. length xs) (left-same f).0 ∙ s.sizes.live_files;
       generations = ap (λ xs. length xs) (left-same f).1 ∙ s.sizes.generations;
       trees = ap (λ xs. length xs) (left-trees f) ∙ length-set n.trees mount.number [] ∙ s.sizes.trees;
-      folders = ap (λ xs. length xs) (left-same f).3 ∙ s.sizes.folders;
+      working_directories = ap (λ xs. length xs) (left-same f).3 ∙ s.sizes.working_directories;
       mounts = let e = ap (λ xs. length xs) (left-same f).7 in let l = length-filter (stays mount.number) n.mounts in let c = count_by-le-length (stays mount.number) n.mounts in let m = s.sizes.mounts in omega (arith, e, l, c, m);
       references = ap (λ xs. length xs) (left-same f).2 ∙ s.sizes.references;
     };
@@ -420,7 +420,7 @@ module _ (n : Namespace) (mount : Mount) (s : Stands Nothing n) (may : MayLeave 
   pub other-left : (f : FsType) → (left_by n mount f).volumes ≡ n.volumes → BoxesBut (left_by n mount f)
   other-left f volumes = record {
     spares = subst (λ vs. (u : ℕ) → length (slice_index_or vs u no_volume).spare ≡ length (slice_index_or vs u no_volume).pages) (sym volumes) s.boxes.spares;
-    kinds = subst (λ lives. (row : ℕ) → fits_kind (slice_index_or lives (row - 1) None) ≡ true) (sym (left-same f).0) s.boxes.kinds;
+    kinds = subst (λ live_files. (row : ℕ) → fits_kind (slice_index_or live_files (row - 1) None) ≡ true) (sym (left-same f).0) s.boxes.kinds;
     mounted = λ u h.
         let name = ap (λ vs. (slice_index_or vs u no_volume).name) volumes in
         ap (λ vs. (slice_index_or vs u no_volume).kept) volumes ∙ s.boxes.mounted u (mounted-less f (volume_at n u).name (sym (ap (is_mounted (left_by n mount f) fs.Cell) name) ∙ h));

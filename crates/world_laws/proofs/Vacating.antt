@@ -125,7 +125,7 @@ module _ (n : Namespace) (mount : Mount) (s : Stands Nothing n) (may : MayLeave 
   -- a file of the mount is of the mount's kind and on its volume
   own-fits : (row : ℕ) (life : LiveFile) → life_at n row ≡ Some life → life.mount ≡ mount.number → fits_mount n life mount ≡ true
   own-fits row life h e =
-      some-fits (mount_numbered n life.mount) life (ap (mount_numbered n) e ∙ numbered n mount s.folders may.is) (s.lives row life h)
+      some-fits (mount_numbered n life.mount) life (ap (mount_numbered n) e ∙ numbered n mount s.working_directories may.is) (s.live_files row life h)
 
   of-volume : (life : LiveFile) (volume cell : ℕ) → life.backing ≡ backing.Cell volume cell → fits_mount n life mount ≡ true → volume ≡ volume_named n mount.source
   of-volume life volume cell e h =
@@ -153,8 +153,8 @@ module _ (n : Namespace) (mount : Mount) (s : Stands Nothing n) (may : MayLeave 
       is_backed_by (lies_on_cell volume cell) (life_at n a) ≡ true → is_backed_by (lies_on_cell volume cell) (life_at n b) ≡ true → a ≡ b
   same-cell volume cell a b v c l m small less h k =
       let placed = s.boxes.cells volume cell v c in
-      let lives = s.sizes.lives in
-      let same = one-place (is_backed_by (lies_on_cell volume cell)) n.lives None None (a - 1) (b - 1) refl (omega (arith, placed)) (omega (arith, small, lives)) (omega (arith, less, lives)) h k in
+      let live_files = s.sizes.live_files in
+      let same = one-place (is_backed_by (lies_on_cell volume cell)) n.live_files None None (a - 1) (b - 1) refl (omega (arith, placed)) (omega (arith, small, live_files)) (omega (arith, less, live_files)) h k in
       omega (arith, l, m, same)
 
   -- a name kept on a cell is that of a live file of the mount
@@ -350,11 +350,11 @@ module _ (n : Namespace) (mount : Mount) (s : Stands Nothing n) (may : MayLeave 
       by (backing.Device device) = refl
       by (backing.Cell volume cell) = ap (λ x. same_kind life.kind (kind_of m.fs) && (volume == x)) (keep-named n mount s may m.source)
 
-  lives-left : (f : FsType) (row : ℕ) (life : LiveFile) → life_at (left_by n mount f) row ≡ Some life → life.mount ≢ mount.number →
+  live_files-left : (f : FsType) (row : ℕ) (life : LiveFile) → life_at (left_by n mount f) row ≡ Some life → life.mount ≢ mount.number →
       IsSomeAnd (mount_numbered (left_by n mount f) life.mount) (λ m. fits_mount (left_by n mount f) life m ≡ true)
-  lives-left f row life h other =
+  live_files-left f row life h other =
       subst (λ found. IsSomeAnd found (λ m. fits_mount (left_by n mount f) life m ≡ true)) (sym (still-numbered f life.mount other))
-      (by (mount_numbered n life.mount) (s.lives row life (sym (ap (λ lives. slice_index_or lives (row - 1) None) (left-same n mount s may f).0) ∙ h)))
+      (by (mount_numbered n life.mount) (s.live_files row life (sym (ap (λ live_files. slice_index_or live_files (row - 1) None) (left-same n mount s may f).0) ∙ h)))
     where
       by : (found : Option Mount) → IsSomeAnd found (λ m. fits_mount n life m ≡ true) → IsSomeAnd found (λ m. fits_mount (left_by n mount f) life m ≡ true)
       by None k = k
@@ -369,10 +369,10 @@ module _ (n : Namespace) (mount : Mount) (s : Stands Nothing n) (may : MayLeave 
         boxes = but-left mount.fs refl;
         devices = devices-left mount.fs;
         cells = cells-left mount.fs refl;
-        lives = lives-left mount.fs;
-        whole = λ row life l h e. row-of n mount s may row life l (sym (ap (λ lives. slice_index_or lives (row - 1) None) same.0) ∙ h) e;
-        rows = rows-left mount.number 1 (left_by n mount mount.fs) n.lives (omega arith) (let e = s.sizes.lives in omega (arith, e))
-            (λ k l. ap (λ lives. slice_index_or lives ((1 + k) - 1) None) same.0 ∙ ap (λ x. slice_index_or n.lives x None) (omega arith));
+        live_files = live_files-left mount.fs;
+        whole = λ row life l h e. row-of n mount s may row life l (sym (ap (λ live_files. slice_index_or live_files (row - 1) None) same.0) ∙ h) e;
+        rows = rows-left mount.number 1 (left_by n mount mount.fs) n.live_files (omega arith) (let e = s.sizes.live_files in omega (arith, e))
+            (λ k l. ap (λ live_files. slice_index_or live_files ((1 + k) - 1) None) same.0 ∙ ap (λ x. slice_index_or n.live_files x None) (omega arith));
         unlinked = λ row i linked u.
             let before = there-before n mount s may mount.fs linked.number linked.path (node.File linked.id linked.kind) linked.there in
             before.0 (own-linked n mount s may row i (record { number = linked.number; path = linked.path; id = linked.id; kind = linked.kind; there = before.1; is = linked.is }));

@@ -22,7 +22,7 @@ use Rattle.vfs_model.specs.declared.namespace.Namespace.{Namespace}
 use Rattle.vfs_model.specs.declared.namespace.RowChange.{RowChange}
 use Rattle.vfs_model.specs.declared.namespace.RowChange.TheVariants as change
 use Rattle.vfs_model.specs.declared.world.Homes.{Homes}
-use Rattle.vfs_model.specs.declared.world.World.{World}
+use Rattle.vfs_model.specs.declared.world.WorldState.{WorldState}
 use Rattle.world_laws.proofs.Agreeing.{Agrees}
 use Rattle.world_laws.proofs.Keeping.{Keeps}
 use Rattle.world_laws.proofs.Passing.{and-first, and-second}
@@ -33,13 +33,13 @@ use Rattle.world_laws.proofs.WorldKeeping.{file-consistent}
 use Rattle.world_laws.specs.Keeping.{HasNumber, MayRun}
 
 -- changes of rows leave the namespace as it was
-changed-namespace : (changes : List RowChange) (w : World) → (fold change_row w changes).namespace ≡ w.namespace
+changed-namespace : (changes : List RowChange) (w : WorldState) → (fold change_row w changes).namespace ≡ w.namespace
 changed-namespace [] w = refl
 changed-namespace (change.Bind id begins ∷ changes) w = changed-namespace changes (change_row w (change.Bind id begins))
 changed-namespace (change.Free id ending ∷ changes) w = changed-namespace changes (change_row w (change.Free id ending))
 
 -- what a step keeps, and the changes of rows, leave the world consistent
-changed-consistent : (w : World) (next : Namespace) (changes : List RowChange) → IsConsistent w → Keeps w.namespace next changes → IsConsistent (fold change_row (record w { namespace = next }) changes)
+changed-consistent : (w : WorldState) (next : Namespace) (changes : List RowChange) → IsConsistent w → Keeps w.namespace next changes → IsConsistent (fold change_row (record w { namespace = next }) changes)
 changed-consistent w next changes c kept =
     let before : Agrees (record w { namespace = next }) w.namespace = record {
       files = c.sizes.files;
@@ -74,13 +74,13 @@ emptied-cell homes volume u cell =
     set-at (λ cells. length (bytes_in cells cell) ≤ length (cell_bytes homes u cell)) homes.cells volume u (blank (slice_index_or homes.cells volume [])) []
     (λ e. let none = blank-cell (slice_index_or homes.cells volume []) cell in omega (arith, none)) (omega arith)
 
-blank-consistent : (w : World) (volume : ℕ) → IsConsistent w → IsConsistent (record w { homes = with_empty_cells w.homes volume })
+blank-consistent : (w : WorldState) (volume : ℕ) → IsConsistent w → IsConsistent (record w { homes = with_empty_cells w.homes volume })
 blank-consistent w volume c =
     consistent-of (record w { homes = with_empty_cells w.homes volume }) (stands-of w c) c.rows_agree
     (record { live = c.cells_fit.live; home = λ u cell. let l = c.cells_fit.home u cell in let m = emptied-cell w.homes volume u cell in omega (arith, l, m) })
     c.sizes.files
 
-formatted-consistent : (w : World) (asked : Step) (answer : Reply) → IsConsistent w → IsConsistent (after_format w asked answer)
+formatted-consistent : (w : WorldState) (asked : Step) (answer : Reply) → IsConsistent w → IsConsistent (after_format w asked answer)
 formatted-consistent w (step.Mkfs name) answer c = by (is_done answer)
   where
     by : (b : Bool) → IsConsistent (if b then record w { homes = with_empty_cells w.homes (volume_named w.namespace name) } else w)
@@ -88,7 +88,7 @@ formatted-consistent w (step.Mkfs name) answer c = by (is_done answer)
     by false = c
 formatted-consistent w asked answer c = c
 
-part-consistent : (w : World) (outcome : NamespaceOutcome) (asked : Step) → IsConsistent w → Keeps w.namespace outcome.next outcome.changes → IsConsistent (namespace_part w outcome asked).next
+part-consistent : (w : WorldState) (outcome : NamespaceOutcome) (asked : Step) → IsConsistent w → Keeps w.namespace outcome.next outcome.changes → IsConsistent (namespace_part w outcome asked).next
 part-consistent w outcome asked c kept =
     formatted-consistent (fold change_row (record w { namespace = outcome.next }) outcome.changes) asked outcome.reply (changed-consistent w outcome.next outcome.changes c kept)
 
@@ -107,7 +107,7 @@ no-file (step.Store file off piece) id e none = absurd (cc)
 no-file asked id e none = absurd (cc)
 
 -- who may ask a step of no file
-asks : (w : World) (asker : Who) (asked : Step) → HasNumber asker → may_ask w asker asked ≡ true → step_row asked ≡ None → Asks w.namespace (session_of asker) asked
+asks : (w : WorldState) (asker : Who) (asked : Step) → HasNumber asker → may_ask w asker asked ≡ true → step_row asked ≡ None → Asks w.namespace (session_of asker) asked
 unfolding may_ask
 asks w (who.Session k) asked numbered may none = inl (numbered, by (step_file asked) refl may)
   where
@@ -124,15 +124,15 @@ asks w (who.Reclaim row) (step.Reclaim other) numbered may none = absurd (cc)
 asks w (who.Reclaim row) asked numbered may none = absurd (cc)
 asks w who.End asked numbered may none = inr (and-first (is_shutdown asked) _ may, and-second (is_shutdown asked) _ may)
 
-on-consistent : (w : World) (k : ℕ) (asked : Step) (m : Mark) (found : Option ℕ) → IsConsistent w → fits_on w k asked m found ≡ true → (found ≡ None → Asks w.namespace k asked) → IsConsistent (step_on w k asked m found).next
+on-consistent : (w : WorldState) (k : ℕ) (asked : Step) (m : Mark) (found : Option ℕ) → IsConsistent w → fits_on w k asked m found ≡ true → (found ≡ None → Asks w.namespace k asked) → IsConsistent (step_on w k asked m found).next
 on-consistent w k asked m None c fits may = part-consistent w (namespace_step w.namespace k asked m) asked c (namespace-kept w.namespace k asked m (may refl) (stands-of w c))
 on-consistent w k asked m (Some row) c fits may = file-consistent w row asked m c fits
 
-pub step-consistent : (w : World) (asker : Who) (asked : Step) (m : Mark) → IsConsistent w → HasNumber asker → MayAsk w asker asked → FitsStep w asker asked m → IsConsistent (world_step w asker asked m).next
+pub step-consistent : (w : WorldState) (asker : Who) (asked : Step) (m : Mark) → IsConsistent w → HasNumber asker → MayAsk w asker asked → FitsStep w asker asked m → IsConsistent (world_step w asker asked m).next
 unfolding world_step fits_step
 step-consistent w asker asked m c numbered may fits = on-consistent w (session_of asker) asked m (step_row asked) c fits (asks w asker asked numbered may)
 
-pub run-consistent : (run : List Asked) (w : World) → IsConsistent w → MayRun w run → IsConsistent (run_steps w run).next
+pub run-consistent : (run : List Asked) (w : WorldState) → IsConsistent w → MayRun w run → IsConsistent (run_steps w run).next
 run-consistent [] w c may = c
 run-consistent (asked ∷ later) w c may =
     run-consistent later (world_step w asked.who asked.step asked.mark).next (step-consistent w asked.who asked.step asked.mark c may.0 may.1 may.2) may.3

@@ -12,11 +12,11 @@ use Rattle.vfs_model.specs.FileMoves.{file_step, fits_file}
 use Rattle.vfs_model.specs.Homes.{file_at}
 use Rattle.vfs_model.specs.ScriptRun.{opening_state}
 use Rattle.vfs_model.specs.World.{FitsStep, file_part, world_step}
-use Rattle.vfs_model.specs.declared.world.World.{World}
+use Rattle.vfs_model.specs.declared.world.WorldState.{WorldState}
 
 -- a step of the file of a row keeps the world consistent
 abbrev pub FileStepsKeepConsistency : Type 0
-FileStepsKeepConsistency = (w : World) (row : ℕ) (asked : Step) (m : Mark) → IsConsistent w →
+FileStepsKeepConsistency = (w : WorldState) (row : ℕ) (asked : Step) (m : Mark) → IsConsistent w →
     fits_file (file_at w row) asked m ≡ true → IsConsistent (file_part w row (file_step (file_at w row) asked m)).next
 
 -- the world at the start of every script is consistent, whatever devices there are
@@ -32,11 +32,11 @@ HasNumber who.End = Unit {0}
 
 -- a step that may be asked, with a mark that fits, keeps the world consistent
 abbrev pub StepsKeepConsistency : Type 0
-StepsKeepConsistency = (w : World) (asker : Who) (asked : Step) (m : Mark) → IsConsistent w → HasNumber asker → MayAsk w asker asked →
+StepsKeepConsistency = (w : WorldState) (asker : Who) (asked : Step) (m : Mark) → IsConsistent w → HasNumber asker → MayAsk w asker asked →
     FitsStep w asker asked m → IsConsistent (world_step w asker asked m).next
 
 -- each step of the list may be asked, with its mark, in the world that the steps before it leave
-abbrev pub MayRun : World → List Asked → Type 0
+abbrev pub MayRun : WorldState → List Asked → Type 0
 MayRun w [] = Unit {0}
 MayRun w (asked ∷ later) =
     HasNumber asked.who × MayAsk w asked.who asked.step × FitsStep w asked.who asked.step asked.mark
@@ -44,4 +44,4 @@ MayRun w (asked ∷ later) =
 
 -- steps that may be asked one after the other keep the world consistent
 abbrev pub RunsKeepConsistency : Type 0
-RunsKeepConsistency = (run : List Asked) (w : World) → IsConsistent w → MayRun w run → IsConsistent (run_steps w run).next
+RunsKeepConsistency = (run : List Asked) (w : WorldState) → IsConsistent w → MayRun w run → IsConsistent (run_steps w run).next

@@ -1,9 +1,9 @@
 use Rattle.std.proofs.Common.{rules, arith, ◌+◌, ◌<◌, length}
-use Rattle.plain_mounts.proofs.Binds.{bind_told, bound_generations, bound_lives, bound_trees}
+use Rattle.plain_mounts.proofs.Binds.{bind_told, bound_generations, bound_live_files, bound_trees}
 use Rattle.plain_mounts.proofs.binding.bind_content.Goals as goal
 
-pub returns-clause-lives : goal.returns-clause-lives
-returns-clause-lives c = bound_lives c.args.namespace.now c.bind_row.new.namespace _ _ c.bind_row.ensures.next c.requires.lives
+pub returns-clause-live_files : goal.returns-clause-live_files
+returns-clause-live_files c = bound_live_files c.args.namespace.now c.bind_row.new.namespace _ _ c.bind_row.ensures.next c.requires.live_files
 
 pub returns-clause-generations : goal.returns-clause-generations
 returns-clause-generations c = bound_generations c.args.namespace.now c.bind_row.new.namespace _ _ c.bind_row.ensures.next c.requires.generations

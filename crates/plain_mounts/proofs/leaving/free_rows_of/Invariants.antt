@@ -7,9 +7,9 @@ use Rattle.plain_mounts.proofs.leaving.free_rows_of.Given as goal
 
 abbrev pub invariant-loop-place : goal.invariant-loop-place
 invariant-loop-place l = record {
-  next : fold (free_row end_of_unmounted) (rows_so_far l.namespace l.changes.items) (rows_from l.number (l.place + 1) (drop l.place l.namespace.lives))
+  next : fold (free_row end_of_unmounted) (rows_so_far l.namespace l.changes.items) (rows_from l.number (l.place + 1) (drop l.place l.namespace.live_files))
       ≡ fold (free_row end_of_unmounted) (rows_so_far l.initial.namespace l.initial.changes.items) (rows_of_mount l.initial.namespace l.number);
-  lives : length l.namespace.lives ≡ 1024;
+  live_files : length l.namespace.live_files ≡ 1024;
   trees : l.namespace.trees ≡ l.initial.namespace.trees;
   room : vec_len l.changes + live_count l.namespace ≤ vec_capacity l.changes;
 }

@@ -10,7 +10,7 @@ abbrev pub invariant-loop-mount : goal.invariant-loop-mount
 invariant-loop-mount l = record {
   next : fold remove_mount (rows_so_far l.namespace l.changes.items) (reverse (map (λ one. one.mount) l.leaving.items))
       ≡ fold remove_mount (rows_so_far l.initial.namespace l.initial.changes.items) (reverse (map (λ one. one.mount) l.initial.leaving.items));
-  lives : length l.namespace.lives ≡ 1024;
+  live_files : length l.namespace.live_files ≡ 1024;
   trees : TreesShrink l.initial.namespace l.namespace;
   names : AllAre (HasRoom l.namespace) l.leaving.items;
   room : vec_len l.changes + live_count l.namespace ≤ vec_capacity l.changes;

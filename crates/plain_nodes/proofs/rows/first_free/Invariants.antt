@@ -5,4 +5,4 @@ use Rattle.plain_nodes.proofs.rows.first_free.Given as goal
 abbrev pub invariant-loop-life : goal.invariant-loop-life
 invariant-loop-life l =
     (l.place ≡ l.life-index)
-    × (l.place + first_free (drop l.life-index l.lives) l.later ≡ first_free l.lives l.generations)
+    × (l.place + first_free (drop l.life-index l.live_files) l.later ≡ first_free l.live_files l.generations)
