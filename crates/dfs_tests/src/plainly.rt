@@ -1,7 +1,7 @@
 //! Whole scripts under a schedule, as the plain run shows them.
 
 use case_forms::CaseFault;
-use case_tables::{fault_text, have_few_cells};
+use case_worlds::{fault_text, have_few_cells};
 use std::alloc::Global;
 use vfs_base::{Bytes, Deck, Describe, Entry, List};
 use vfs_plain::plain_run;

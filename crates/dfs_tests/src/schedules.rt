@@ -2,7 +2,7 @@
 
 use crate::plainly::shown_plainly;
 use case_forms::{CaseFault, Section, case_text, push_section, push_text, section_of, tell_block};
-use case_tables::{Setting, numbered};
+use case_worlds::{Setting, numbered};
 use deck_form::{ScheduleFault, read_schedule};
 use std::alloc::Global;
 use vfs_base::Bytes;

@@ -1,7 +1,7 @@
 use Rattle.std.proofs.Common.{drop}
 use Rattle.vfs_base.specs.Path.{AllAre}
 use Rattle.plain_steps.specs.Opening.{HasFewCells}
-use Rattle.case_tables.proofs.outcomes.have_few_cells.Given as goal
+use Rattle.case_worlds.proofs.outcomes.have_few_cells.Given as goal
 
 abbrev pub invariant-loop-shape : goal.invariant-loop-shape
 invariant-loop-shape l = AllAre HasFewCells (drop l.shape-index l.volumes) → AllAre HasFewCells l.volumes
