@@ -19,10 +19,10 @@ pub record StepsLead (deck : Deck) (s : RunState) (entries : List Entry) (w : Wo
   pub leads : (run_steps s.world steps).next ≡ w
 
 -- an entry that was taken has a step, and the world goes on by it
-record EntryTaken (deck : Deck) (s : RunState) (entry : Entry) (next : RunState) : Type 0 where
-  step : Step
-  asked : entry_step deck s entry.who ≡ Some step
-  world : next.world ≡ (world_step s.world entry.who step entry.mark).next
+pub record EntryTaken (deck : Deck) (s : RunState) (entry : Entry) (next : RunState) : Type 0 where
+  pub step : Step
+  pub asked : entry_step deck s entry.who ≡ Some step
+  pub world : next.world ≡ (world_step s.world entry.who step entry.mark).next
 
 some-is : {X : Type 0} (a b : X) → Some a ≡ Some b → a ≡ b
 some-is a b e = cc
@@ -45,7 +45,7 @@ taken-now deck s next entry false e =
     let found = taken-step s next entry (entry_step deck s entry.who) e in
     record { step = found.0; asked = found.1; world = found.2 }
 
-taken : (deck : Deck) (s next : RunState) (entry : Entry) → take_entry deck s entry ≡ Some next → EntryTaken deck s entry next
+pub taken : (deck : Deck) (s next : RunState) (entry : Entry) → take_entry deck s entry ≡ Some next → EntryTaken deck s entry next
 unfolding take_entry
 taken deck s next entry e = taken-now deck s next entry s.is_over e
 

@@ -6,6 +6,7 @@ pub mod CommandExamples
 pub mod CommandRuns
 pub mod CopyCommandExamples
 pub mod CopyTalks
+pub mod CountedHolders
 pub mod CoveringMounts
 pub mod DeckLemmas
 pub mod DeckLineLemmas
@@ -16,6 +17,7 @@ pub mod EmptyMounts
 pub mod ExampleSteps
 pub mod Examples
 pub mod FailedCallExamples
+pub mod FaultSums
 pub mod FileCommandExamples
 pub mod FileTalks
 pub mod FolderCommandExamples

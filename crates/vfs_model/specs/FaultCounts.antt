@@ -1,6 +1,6 @@
 -- Which devices a step can meet a fault of, and how the devices' counts of faults rise along a schedule.
 use Rattle.std.specs.Prelude.{◌≡◌, ℕ, ◌+◌, ◌-◌, ◌^◌, ◌<◌, ◌≤◌, ◌⊎◌, min, true, Option, Some, None, List, [], ◌∷◌, length, take, slice_index_or, if◌then◌else◌}
-use Rattle.std.specs.List.{Any, range_with_len}
+use Rattle.std.specs.List.{Any, count_by, range_with_len, sum_by}
 use Rattle.vfs_base.specs.declared.deck.Deck.{Deck}
 use Rattle.vfs_base.specs.declared.describe.Describe.{Describe}
 use Rattle.vfs_base.specs.declared.entry.Entry.{Entry}
@@ -77,3 +77,23 @@ pub record CountsRise (deck : Deck) (describe : Describe) (schedule : List Entry
   pub caused : (at : ℕ) (entry : Entry) (s : RunState) (asked : Step) → at < length schedule → slice_index_or schedule at entry ≡ entry →
       state_after deck describe (take at schedule) ≡ Some s → entry_step deck s entry.who ≡ Some asked → is_fault entry.mark ≡ true →
       SomeHasRisen (step_devices s.world.namespace entry.who asked) (slice_index_or trace at no_devices) (slice_index_or trace (at + 1) no_devices)
+
+-- how many entries have a device's fault
+abbrev pub fault_marks : List Entry → ℕ
+fault_marks schedule = count_by (λ entry. is_fault entry.mark) schedule
+
+-- how many faults all devices counted
+abbrev pub all_faults : ByDevice → ℕ
+all_faults counts = sum_by (λ count. count) counts.volumes + sum_by (λ count. count) counts.chars
+
+-- no count stands at the last value of its type
+pub record AreExact (counts : ByDevice) : Type 0 where
+  pub volumes : (volume : ℕ) → slice_index_or counts.volumes volume 0 < 2 ^ 64 - 1
+  pub chars : (device : ℕ) → slice_index_or counts.chars device 0 < 2 ^ 64 - 1
+
+-- Where all entries can be taken and no count stands at its last value, there are no more marks of a device's fault than faults
+-- that the devices counted along the schedule.
+abbrev pub FaultMarksHaveFaults : Type 0
+FaultMarksHaveFaults = (deck : Deck) (describe : Describe) (schedule : List Entry) (trace : List ByDevice) (s : RunState) →
+    CountsRise deck describe schedule trace → state_after deck describe schedule ≡ Some s → AreExact (slice_index_or trace (length schedule) no_devices) →
+    all_faults (slice_index_or trace 0 no_devices) + fault_marks schedule ≤ all_faults (slice_index_or trace (length schedule) no_devices)

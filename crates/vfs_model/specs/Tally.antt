@@ -1,5 +1,5 @@
 -- The steps that a schedule stands for, their calls of devices, and the faults and the want of memory among them.
-use Rattle.std.specs.Prelude.{◌≡◌, ℕ, ◌==◌, Bool, true, false, not, is_some, Option, Some, None, option_map, List, [], ◌∷◌, map, if◌then◌else◌}
+use Rattle.std.specs.Prelude.{◌≡◌, ℕ, ◌-◌, ◌==◌, Bool, true, false, not, ◌&&◌, nat_lt, is_some, Option, Some, None, option_map, List, [], ◌∷◌, map, slice_index_or, if◌then◌else◌}
 use Rattle.std.specs.List.{list_all}
 use Rattle.std.specs.Option.{option_and_then}
 use Rattle.vfs_base.specs.declared.deck.Deck.{Deck}
@@ -7,14 +7,14 @@ use Rattle.vfs_base.specs.declared.describe.Describe.{Describe}
 use Rattle.vfs_base.specs.declared.entry.Entry.{Entry}
 use Rattle.vfs_base.specs.declared.entry.Mark.{Mark}
 use Rattle.vfs_base.specs.declared.entry.Mark.TheVariants as mark
+use Rattle.vfs_base.specs.declared.ids.HoldId.{HoldId}
 use Rattle.vfs_base.specs.declared.step.Step.{Step}
 use Rattle.vfs_base.specs.declared.step.Step.TheVariants as step
 use Rattle.vfs_model.specs.Asking.{Asked, run_steps}
 use Rattle.vfs_model.specs.IoTotals.{IoTotal, io_totals}
-use Rattle.vfs_model.specs.ReferenceSteps.{reference_at}
+use Rattle.vfs_model.specs.Namespace.{references_of}
 use Rattle.vfs_model.specs.ScriptRun.{RunState, entry_step, opening_state, rom_image, state_after, take_entry}
 use Rattle.vfs_model.specs.declared.namespace.Namespace.{Namespace}
-use Rattle.vfs_model.specs.declared.namespace.Role.TheVariants as role
 
 -- the step of an entry, with its mark
 abbrev pub entry_asked : Deck → RunState → Entry → Option Asked
@@ -55,10 +55,14 @@ tally deck describe schedule =
     if list_all (λ entry. is_clear entry.mark) schedule
     then option_map (io_totals (map rom_image deck.roms) describe) (asked_of deck describe schedule) else None
 
+-- the session has a reference by this name, an open file's or a mapping's
+abbrev pub has_reference : Namespace → ℕ → HoldId → Bool
+has_reference n k hold = hold.session == k && nat_lt 0 hold.number && is_some (slice_index_or (references_of n k) (hold.number - 1) None)
+
 -- A step that takes no memory: what gives back a reference that the session has, and what changes no list.
 unfoldable pub needs_no_memory : Namespace → ℕ → Step → Bool
-needs_no_memory n k (step.Close hold) = is_some (reference_at n k hold role.Open)
-needs_no_memory n k (step.Unmap hold) = is_some (reference_at n k hold role.Map)
+needs_no_memory n k (step.Close hold) = has_reference n k hold
+needs_no_memory n k (step.Unmap hold) = has_reference n k hold
 needs_no_memory n k step.Home = true
 needs_no_memory n k (step.Size id) = true
 needs_no_memory n k (step.Sync id) = true

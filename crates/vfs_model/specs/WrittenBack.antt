@@ -71,3 +71,10 @@ pub record IsWrittenBack (w : WorldState) (before now : Contents) : Type 0 where
   pub devices : (device : ℕ) → device < length w.homes.devices →
       IfSome (slice_index_or before.devices device None) (λ first.
       IfSome (slice_index_or now.devices device None) (λ last. DeviceWritten (device_home w.homes device) first last))
+
+-- Equal but for the bytes that lie at home on cells: what is left after an end that met a device's fault, beside the world of its
+-- definition.
+pub record SameBut (a b : WorldState) : Type 0 where
+  pub namespace : a.namespace ≡ b.namespace
+  pub files : a.files ≡ b.files
+  pub devices : a.homes.devices ≡ b.homes.devices

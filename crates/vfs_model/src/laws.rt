@@ -4,6 +4,8 @@ ghost use Rattle.vfs_model.specs.CacheLaws.{CacheStaysSmall, CallsAddUp, FailedC
 ghost use Rattle.vfs_model.specs.ConsistencyLaws.{OpeningWorldIsConsistent, StandingMountsAreApart};
 ghost use Rattle.vfs_model.specs.DeckLaws.{ReadScriptIsInForm};
 ghost use Rattle.vfs_model.specs.DescriptorLaws.{StaysSound};
+ghost use Rattle.vfs_model.specs.FaultCounts.{FaultMarksHaveFaults};
+ghost use Rattle.vfs_model.specs.HolderLaws.{HoldersAreCounted};
 ghost use Rattle.vfs_model.specs.ShellLaws.{AddedMappingGoesBack, DupSharesFile, LineTakesReplies, WholeLinesEnd};
 ghost use Rattle.vfs_model.specs.Laws.{RefusedStepChangesNothing, WorkerChangesNothing, CoveringMountIsLongest, RefusedWorldStaysSame, PutNodeStands, TakenNodeIsGone, NormalPathHasNormalNames, PrintedPathNamesItself, MountShowsItsTree, UnmountLeavesOtherMounts, MovedSubtreeStands, RenamedSubtreeStands, EmptyMountChangesNoNode};
 ghost use Rattle.vfs_model.specs.FileLaws.{StepChangesOneFile, WriteMovesItsPiece, WrittenIsRead};
@@ -230,4 +232,14 @@ pub fn step_changes_one_file()
 /// The stored pages of a file in rising order, and the sixteen words of their set, tell the same.
 pub fn words_tell_pages()
     ensures { WordsTellPages }
+{}
+
+/// A schedule has no more marks of a device's fault than the devices counted faults along it, while no count stands at its last value.
+pub fn fault_marks_have_faults()
+    ensures { FaultMarksHaveFaults }
+{}
+
+/// Each path's line tells how many hold it: references to the file that stands there, sessions that stand in it, mounts on it.
+pub fn holders_are_counted()
+    ensures { HoldersAreCounted }
 {}
