@@ -4,6 +4,7 @@ pub mod CacheExamples
 pub mod CleanedPages
 pub mod CommandExamples
 pub mod CommandRuns
+pub mod ContentSizes
 pub mod CopyCommandExamples
 pub mod CopyTalks
 pub mod CoveringMounts
@@ -18,8 +19,10 @@ pub mod Examples
 pub mod FailedCallExamples
 pub mod FileCommandExamples
 pub mod FileTalks
+pub mod FlatReplies
 pub mod FolderCommandExamples
 pub mod FolderTalks
+pub mod FreeNumbers
 pub mod FreePlaces
 pub mod GrowingRuns
 pub mod LeadCounts
@@ -40,6 +43,7 @@ pub mod RefusalExamples
 pub mod RefusedSteps
 pub mod RenameLaws
 pub mod ReplyTaking
+pub mod RowChanges
 pub mod RowShapes
 pub mod ScheduleExactness
 pub mod ScheduleExamples
@@ -51,8 +55,17 @@ pub mod SharedFileExamples
 pub mod ShellExamples
 pub mod ShellRuns
 pub mod ShellTables
+pub mod ShortPaths
+pub mod SizedMounts
+pub mod SizedNames
+pub mod SizedNodes
+pub mod SizedStart
+pub mod SizedSteps
+pub mod SizedUmounts
 pub mod SmallCaches
 pub mod SoundDescriptors
+pub mod StepAnswers
+pub mod StepReplies
 pub mod StoppedCalls
 pub mod TallyExamples
 pub mod TranscriptExamples

@@ -48,6 +48,7 @@ pub mod PlainName
 pub mod ReferenceSteps
 pub mod RenameStep
 pub mod Rom
+pub mod RowChange
 pub mod RowShape
 pub mod Schedule
 pub mod Script
@@ -55,6 +56,7 @@ pub mod ScriptRun
 pub mod Session
 pub mod ShellLaws
 pub mod Shown
+pub mod Sizes
 pub mod Soak
 pub mod StepForms
 pub mod Summary
