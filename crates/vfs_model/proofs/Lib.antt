@@ -1,4 +1,5 @@
 pub mod AskedSteps
+pub mod BadLines
 pub mod BlockLemmas
 pub mod CacheExamples
 pub mod CleanedPages
@@ -56,6 +57,7 @@ pub mod ShellExamples
 pub mod ShellRuns
 pub mod ShellTables
 pub mod ShortPaths
+pub mod ShownBytes
 pub mod SizedMounts
 pub mod SizedNames
 pub mod SizedNodes

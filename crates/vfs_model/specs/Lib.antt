@@ -64,6 +64,7 @@ pub mod Tables
 pub mod Talk
 pub mod Tally
 pub mod TextCommands
+pub mod TextLaws
 pub mod Transcript
 pub mod TranscriptLaws
 pub mod Turns

@@ -9,6 +9,7 @@ ghost use Rattle.vfs_model.specs.Laws.{RefusedStepChangesNothing, WorkerChangesN
 ghost use Rattle.vfs_model.specs.FileLaws.{StepChangesOneFile, WriteMovesItsPiece, WrittenIsRead};
 ghost use Rattle.vfs_model.specs.PageList.{WordsTellPages};
 ghost use Rattle.vfs_model.specs.RowChange.{ChangesActByRow, TouchedRowsChange, ListsChangeNothing, BytesChangeNoFile};
+ghost use Rattle.vfs_model.specs.TextLaws.{ShownBytesTellBytes, BadLineNeedsNoLaterByte};
 ghost use Rattle.vfs_model.specs.RowShape.{RefusalsNeedNoBytes};
 ghost use Rattle.vfs_model.specs.Sizes.{StepKeepsSizes, MarkedStepKeepsSizes, OpeningIsSized, TellsShortFolders};
 ghost use Rattle.vfs_model.specs.Tally.{AskedStepsLeadOn};
@@ -272,4 +273,14 @@ pub fn opening_is_sized()
 /// Only Chdir and Cwd tell a folder, and its printed path is not too long.
 pub fn tells_short_folders()
     ensures { TellsShortFolders }
+{}
+
+/// Different bytes are shown differently.
+pub fn shown_bytes_tell_bytes()
+    ensures { ShownBytesTellBytes }
+{}
+
+/// The first bad line of an input or of a script depends on no byte behind the lines that were read whole.
+pub fn bad_line_needs_no_later_byte()
+    ensures { BadLineNeedsNoLaterByte }
 {}
