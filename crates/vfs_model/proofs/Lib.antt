@@ -28,6 +28,7 @@ pub mod FreePlaces
 pub mod GrowingRuns
 pub mod LeadCounts
 pub mod LineTalks
+pub mod LivingFiles
 pub mod MappingCommandExamples
 pub mod MappingTalks
 pub mod MarkExamples

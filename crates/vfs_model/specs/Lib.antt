@@ -27,6 +27,7 @@ pub mod Holders
 pub mod Homes
 pub mod IoTotals
 pub mod Laws
+pub mod LivingFiles
 pub mod Lookup
 pub mod MadeCalls
 pub mod Manifest

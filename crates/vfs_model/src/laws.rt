@@ -10,6 +10,7 @@ ghost use Rattle.vfs_model.specs.FileLaws.{StepChangesOneFile, WriteMovesItsPiec
 ghost use Rattle.vfs_model.specs.PageList.{WordsTellPages};
 ghost use Rattle.vfs_model.specs.RowChange.{ChangesActByRow, TouchedRowsChange, ListsChangeNothing, BytesChangeNoFile};
 ghost use Rattle.vfs_model.specs.TextLaws.{ShownBytesTellBytes, BadLineNeedsNoLaterByte};
+ghost use Rattle.vfs_model.specs.LivingFiles.{FileLivesWhileNamed};
 ghost use Rattle.vfs_model.specs.RowShape.{RefusalsNeedNoBytes};
 ghost use Rattle.vfs_model.specs.Sizes.{StepKeepsSizes, MarkedStepKeepsSizes, OpeningIsSized, TellsShortFolders};
 ghost use Rattle.vfs_model.specs.Tally.{AskedStepsLeadOn};
@@ -283,4 +284,9 @@ pub fn shown_bytes_tell_bytes()
 /// The first bad line of an input or of a script depends on no byte behind the lines that were read whole.
 pub fn bad_line_needs_no_later_byte()
     ensures { BadLineNeedsNoLaterByte }
+{}
+
+/// Between steps a row has a live file exactly where a path or a reference names it.
+pub fn file_lives_while_named()
+    ensures { FileLivesWhileNamed }
 {}
