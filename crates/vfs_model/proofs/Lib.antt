@@ -14,9 +14,11 @@ pub mod DeckLineLemmas
 pub mod DeviceExamples
 pub mod DeviceTexts
 pub mod DoneSessions
+pub mod EchoedTexts
 pub mod EmptyMounts
 pub mod ExampleSteps
 pub mod Examples
+pub mod ExitLemmas
 pub mod FailedCallExamples
 pub mod FileCommandExamples
 pub mod FileTalks
@@ -59,6 +61,7 @@ pub mod ShellRuns
 pub mod ShellTables
 pub mod ShortPaths
 pub mod ShownBytes
+pub mod ShownFiles
 pub mod SizedMounts
 pub mod SizedNames
 pub mod SizedNodes

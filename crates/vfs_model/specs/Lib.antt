@@ -5,6 +5,7 @@ pub mod Cache
 pub mod CacheLaws
 pub mod Chain
 pub mod Command
+pub mod CommandLaws
 pub mod CommandText
 pub mod CommandWords
 pub mod Consistency
@@ -15,6 +16,7 @@ pub mod Deck
 pub mod DeckLaws
 pub mod DeckLine
 pub mod DescriptorLaws
+pub mod ExitLaws
 pub mod FailedCalls
 pub mod FaultCounts
 pub mod FileCommands
