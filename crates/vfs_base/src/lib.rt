@@ -6,6 +6,7 @@
 #![tactic(auto)]
 
 mod calls;
+mod copies;
 mod deck;
 mod describe;
 mod entry;
@@ -22,6 +23,7 @@ mod reply;
 mod step;
 
 pub use calls::Calls;
+pub use copies::{copy_flat, copy_flat_step, copy_reply, copy_step};
 pub use deck::{Act, Deck, RomText};
 pub use describe::{CellNode, CharsShape, Counts, Describe, PageCount, Record, VolumeShape};
 pub use entry::{Entry, Mark, Who, push_mark, push_number, push_who};

@@ -5,6 +5,7 @@ pub mod Cache
 pub mod CacheLaws
 pub mod Chain
 pub mod Command
+pub mod CommandLaws
 pub mod CommandText
 pub mod CommandWords
 pub mod Consistency
@@ -15,6 +16,7 @@ pub mod Deck
 pub mod DeckLaws
 pub mod DeckLine
 pub mod DescriptorLaws
+pub mod ExitLaws
 pub mod FailedCalls
 pub mod FaultCounts
 pub mod FileCommands
@@ -28,6 +30,7 @@ pub mod Holders
 pub mod Homes
 pub mod IoTotals
 pub mod Laws
+pub mod LivingFiles
 pub mod Lookup
 pub mod MadeCalls
 pub mod Manifest
@@ -49,6 +52,7 @@ pub mod PlainName
 pub mod ReferenceSteps
 pub mod RenameStep
 pub mod Rom
+pub mod RowChange
 pub mod RowShape
 pub mod Schedule
 pub mod Script
@@ -56,6 +60,7 @@ pub mod ScriptRun
 pub mod Session
 pub mod ShellLaws
 pub mod Shown
+pub mod Sizes
 pub mod Soak
 pub mod StepForms
 pub mod Summary
@@ -63,6 +68,7 @@ pub mod Tables
 pub mod Talk
 pub mod Tally
 pub mod TextCommands
+pub mod TextLaws
 pub mod Transcript
 pub mod TranscriptLaws
 pub mod Turns

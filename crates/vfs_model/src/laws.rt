@@ -10,7 +10,11 @@ ghost use Rattle.vfs_model.specs.ShellLaws.{AddedMappingGoesBack, DupSharesFile,
 ghost use Rattle.vfs_model.specs.Laws.{RefusedStepChangesNothing, WorkerChangesNothing, CoveringMountIsLongest, RefusedWorldStaysSame, PutNodeStands, TakenNodeIsGone, NormalPathHasNormalNames, PrintedPathNamesItself, MountShowsItsTree, UnmountLeavesOtherMounts, MovedSubtreeStands, RenamedSubtreeStands, EmptyMountChangesNoNode};
 ghost use Rattle.vfs_model.specs.FileLaws.{StepChangesOneFile, WriteMovesItsPiece, WrittenIsRead};
 ghost use Rattle.vfs_model.specs.PageList.{WordsTellPages};
+ghost use Rattle.vfs_model.specs.RowChange.{ChangesActByRow, TouchedRowsChange, ListsChangeNothing, BytesChangeNoFile};
+ghost use Rattle.vfs_model.specs.TextLaws.{ShownBytesTellBytes, BadLineNeedsNoLaterByte};
+ghost use Rattle.vfs_model.specs.LivingFiles.{FileLivesWhileNamed};
 ghost use Rattle.vfs_model.specs.RowShape.{RefusalsNeedNoBytes};
+ghost use Rattle.vfs_model.specs.Sizes.{StepKeepsSizes, MarkedStepKeepsSizes, OpeningIsSized, TellsShortFolders};
 ghost use Rattle.vfs_model.specs.Tally.{AskedStepsLeadOn};
 ghost use Rattle.vfs_model.specs.TranscriptLaws.{PrintedScheduleIsRead, ReadScheduleIsPrinted, TranscriptNeedsEachEntry, UndefinedTranscriptHasPlace, FrontHasTranscript, WholeScheduleEndsLast, ScriptSaysTurns, EachBlockShowsItsLine, ShownBlocksStay, PendingStepIsWanted, ScriptGoesOn};
 
@@ -242,4 +246,59 @@ pub fn fault_marks_have_faults()
 /// Each path's line tells how many hold it: references to the file that stands there, sessions that stand in it, mounts on it.
 pub fn holders_are_counted()
     ensures { HoldersAreCounted }
+{}
+
+/// The changes of a step in their order make of each row's file what the row's last change makes of it.
+pub fn changes_act_by_row()
+    ensures { ChangesActByRow }
+{}
+
+/// The rows that a step touches are those that it does something to.
+pub fn touched_rows_change()
+    ensures { TouchedRowsChange }
+{}
+
+/// A step of the namespace that answers with a list changes no row, and but for a Chdir nothing at all.
+pub fn lists_change_nothing()
+    ensures { ListsChangeNothing }
+{}
+
+/// A step of a file that answers with bytes leaves the file as it was, but for the read of a character device.
+pub fn bytes_change_no_file()
+    ensures { BytesChangeNoFile }
+{}
+
+/// A step that is answered makes no list of the namespace longer than it may be.
+pub fn step_keeps_sizes()
+    ensures { StepKeepsSizes }
+{}
+
+/// Nor does a step under a mark, or the end.
+pub fn marked_step_keeps_sizes()
+    ensures { MarkedStepKeepsSizes }
+{}
+
+/// The namespace at the start has the sizes that steps keep, where no rom and no volume is too large.
+pub fn opening_is_sized()
+    ensures { OpeningIsSized }
+{}
+
+/// Only Chdir and Cwd tell a folder, and its printed path is not too long.
+pub fn tells_short_folders()
+    ensures { TellsShortFolders }
+{}
+
+/// Different bytes are shown differently.
+pub fn shown_bytes_tell_bytes()
+    ensures { ShownBytesTellBytes }
+{}
+
+/// The first bad line of an input or of a script depends on no byte behind the lines that were read whole.
+pub fn bad_line_needs_no_later_byte()
+    ensures { BadLineNeedsNoLaterByte }
+{}
+
+/// Between steps a row has a live file exactly where a path or a reference names it.
+pub fn file_lives_while_named()
+    ensures { FileLivesWhileNamed }
 {}

@@ -5,6 +5,7 @@
 #![tactic(auto)]
 
 mod cache;
+pub mod command_laws;
 pub mod laws;
 mod namespace;
 mod script_form;
