@@ -2,6 +2,7 @@ pub mod Calls
 pub mod Entry
 pub mod Errno
 pub mod Flat
+pub mod List
 pub mod Name
 pub mod Path
 pub mod PathLaws

@@ -9,7 +9,7 @@ use crate::no_memory::NoMemory;
 use crate::reply::Reply;
 use crate::step::Step;
 
-/// Whoever takes steps for one caller.
+/// Whoever takes steps for one caller. The worker of the threads will call its session's steps through it.
 pub trait Calls {
     /// The steps that were asked and answered so far, where the object tells them.
     ghost asked: { Self → Option (List Step) };

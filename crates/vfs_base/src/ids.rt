@@ -1,6 +1,6 @@
 //! Numbers of sessions, vnode slots, generations, mounts and references, each in its range.
 
-ghost use Rattle.std.specs.Prelude.{◌≡◌, ℕ, ◌≤◌, ◌<◌, ◌&&◌, nat_le, nat_lt, if◌then◌else◌};
+ghost use Rattle.std.specs.Prelude.{◌≡◌, ℕ, ◌-◌, ◌≤◌, ◌<◌, ◌&&◌, nat_le, nat_lt, if◌then◌else◌};
 
 use crate::limits::{MOUNTS, ROWS, SESSIONS};
 use std::marker::Model;
@@ -44,6 +44,15 @@ impl SessionId {
     {
         self.number
     }
+
+    /// The session's place in a list by sessions: its number less one.
+    pub fn place(self) -> usize
+        ensures value { result ≡ self - 1 }
+        ensures least { 1 ≤ self }
+        ensures below { result < 8 }
+    {
+        self.number as usize - 1
+    }
 }
 
 /// The number of a vnode slot, the place of one live file: 1 to `ROWS`.
@@ -81,6 +90,15 @@ impl RowId {
         ensures greatest { self ≤ 1024 }
     {
         self.number
+    }
+
+    /// The slot's place in a list by slots: its number less one.
+    pub fn place(self) -> usize
+        ensures value { result ≡ self - 1 }
+        ensures least { 1 ≤ self }
+        ensures below { result < 1024 }
+    {
+        self.number as usize - 1
     }
 }
 

@@ -72,6 +72,13 @@ impl Path {
         self.names.push(name)
     }
 
+    /// Goes up to the root.
+    pub fn clear(&mut self)
+        ensures { self.new ≡ [] }
+    {
+        self.names.clear();
+    }
+
     /// Goes up to the parent and answers the name left behind, or `None` at the root.
     pub fn pop(&mut self) -> Option<Name>
         ensures some { IfSome result (λ name. self.old ≡ self.new ++ name ∷ []) }
