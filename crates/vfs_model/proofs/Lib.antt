@@ -2,6 +2,7 @@ pub mod AskedSteps
 pub mod BadLines
 pub mod BlockLemmas
 pub mod CacheExamples
+pub mod ChangedRows
 pub mod CleanedPages
 pub mod CommandExamples
 pub mod CommandRuns

@@ -19,6 +19,7 @@ use Rattle.vfs_model.specs.Namespace.{Tree, life_at, same_bytes, tree_of}
 use Rattle.vfs_model.specs.NamespaceOutcome.{NamespaceOutcome}
 use Rattle.vfs_model.specs.NamespaceStep.{shutdown_step}
 use Rattle.vfs_model.specs.UmountSteps.{empty_mount, format_volume, is_busy, keep_names, kept_node, mkfs_step, mount_at_point, remove_all, remove_mount, rows_of_mount, umount_at}
+use Rattle.vfs_model.specs.declared.namespace.Backing.{Backing}
 use Rattle.vfs_model.specs.declared.namespace.End.{End}
 use Rattle.vfs_model.specs.declared.namespace.End.TheVariants as end
 use Rattle.vfs_model.specs.declared.namespace.KeptNode.{KeptNode}
@@ -73,17 +74,16 @@ sized_names n mount fs.Cell s =
     sized_volume n place (record (volume_at n place) { kept = names }) s
     (s.spares place) (s.pages place) (omega (arith, same, s.trees mount.number))
 
-sized_rows : (rows : Rows) (list : List ℕ) → IsSized rows.next → IsSized (fold (free_row end_of_unmounted) rows list).next
+sized_rows : (ending : Backing → End) (rows : Rows) (list : List ℕ) → IsSized rows.next → IsSized (fold (free_row ending) rows list).next
 unfolding free_row
-sized_rows rows [] s = s
-sized_rows rows (row ∷ list) s =
-    sized_rows (free_row end_of_unmounted rows row) list
-    (sized_freed rows.next row (end_of_unmounted (backing_of (life_at rows.next row))) s)
+sized_rows ending rows [] s = s
+sized_rows ending rows (row ∷ list) s =
+    sized_rows ending (free_row ending rows row) list (sized_freed rows.next row (ending (backing_of (life_at rows.next row))) s)
 
 sized_emptied : (rows : Rows) (mount : Mount) → IsSized rows.next → IsSized (empty_mount rows mount).next
 unfolding empty_mount
 sized_emptied rows mount s =
-    sized_rows _ (rows_of_mount rows.next mount.number)
+    sized_rows end_of_unmounted _ (rows_of_mount rows.next mount.number)
     (sized_tree (keep_names rows.next mount mount.fs) mount.number [] (sized_names rows.next mount mount.fs s) (omega arith) (λ no. refl))
 
 pub sized_mounts : (n : Namespace) (mounts : List Mount) → IsSized n → length mounts ≤ 15 →

@@ -5,12 +5,15 @@ use Rattle.std.specs.Option.{option_or}
 use Rattle.vfs_base.specs.Flat.{IsFlat}
 use Rattle.vfs_base.specs.declared.entry.Mark.{Mark}
 use Rattle.vfs_base.specs.declared.entry.Mark.TheVariants as mark
+use Rattle.vfs_base.specs.declared.entry.Who.{Who}
 use Rattle.vfs_base.specs.declared.step.Step.{Step}
 use Rattle.vfs_base.specs.declared.step.Step.TheVariants as step
+use Rattle.vfs_model.specs.Consistency.{ReferencesLive}
 use Rattle.vfs_model.specs.FileMoves.{file_step}
 use Rattle.vfs_model.specs.Homes.{bound_file, change_row, file_at}
 use Rattle.vfs_model.specs.NamespaceOutcome.{NamespaceOutcome}
 use Rattle.vfs_model.specs.NamespaceStep.{namespace_step, row_of_change, touched_rows}
+use Rattle.vfs_model.specs.World.{session_of, step_row, world_step}
 use Rattle.vfs_model.specs.declared.namespace.Namespace.{Namespace}
 use Rattle.vfs_model.specs.declared.namespace.RowChange.{RowChange}
 use Rattle.vfs_model.specs.declared.namespace.RowChange.TheVariants as change
@@ -60,6 +63,22 @@ HasRow changed = 0 < row_of_change changed
 abbrev pub ChangesActByRow : Type 0
 ChangesActByRow = (w : WorldState) (changes : List RowChange) (row : ℕ) → All HasRow changes → 0 < row → row ≤ length w.files →
     file_at (fold change_row w changes) row ≡ changed_file (before_change row w changes) (last_change row changes) (file_at w row)
+
+-- each change that a step makes is one of a row, where each file that is linked or held is live
+abbrev pub ChangesHaveRows : Type 0
+ChangesHaveRows = (n : Namespace) (k : ℕ) (asked : Step) (m : Mark) → ReferencesLive n → All HasRow (namespace_step n k asked m).changes
+
+-- the world in which a step changes a row
+abbrev pub world_at_change : WorldState → NamespaceOutcome → ℕ → WorldState
+world_at_change w outcome row = before_change row (record w { namespace = outcome.next }) outcome.changes
+
+-- a step of the namespace makes of each row's file what it does to the row
+abbrev pub StepActsByRow : Type 0
+StepActsByRow = (w : WorldState) (asker : Who) (asked : Step) (m : Mark) (row : ℕ) → step_row asked ≡ None →
+    ReferencesLive w.namespace → 0 < row → row ≤ length w.files →
+    file_at (world_step w asker asked m).next row
+    ≡ changed_file (world_at_change w (namespace_step w.namespace (session_of asker) asked m) row)
+    (change_at w.namespace (session_of asker) asked m row) (file_at w row)
 
 -- the step leaves the namespace as it was, and changes no row
 pub record Untouched (n : Namespace) (outcome : NamespaceOutcome) : Type 0 where

@@ -10,9 +10,7 @@ ghost use Rattle.vfs_model.specs.ShellLaws.{AddedMappingGoesBack, DupSharesFile,
 ghost use Rattle.vfs_model.specs.Laws.{RefusedStepChangesNothing, WorkerChangesNothing, CoveringMountIsLongest, RefusedWorldStaysSame, PutNodeStands, TakenNodeIsGone, NormalPathHasNormalNames, PrintedPathNamesItself, MountShowsItsTree, UnmountLeavesOtherMounts, MovedSubtreeStands, RenamedSubtreeStands, EmptyMountChangesNoNode};
 ghost use Rattle.vfs_model.specs.FileLaws.{StepChangesOneFile, WriteMovesItsPiece, WrittenIsRead};
 ghost use Rattle.vfs_model.specs.PageList.{WordsTellPages};
-ghost use Rattle.vfs_model.specs.RowChange.{ChangesActByRow, TouchedRowsChange, ListsChangeNothing, BytesChangeNoFile};
 ghost use Rattle.vfs_model.specs.TextLaws.{ShownBytesTellBytes, BadLineNeedsNoLaterByte};
-ghost use Rattle.vfs_model.specs.LivingFiles.{FileLivesWhileNamed};
 ghost use Rattle.vfs_model.specs.RowShape.{RefusalsNeedNoBytes};
 ghost use Rattle.vfs_model.specs.Sizes.{StepKeepsSizes, MarkedStepKeepsSizes, OpeningIsSized, TellsShortFolders};
 ghost use Rattle.vfs_model.specs.Tally.{AskedStepsLeadOn};
@@ -248,26 +246,6 @@ pub fn holders_are_counted()
     ensures { HoldersAreCounted }
 {}
 
-/// The changes of a step in their order make of each row's file what the row's last change makes of it.
-pub fn changes_act_by_row()
-    ensures { ChangesActByRow }
-{}
-
-/// The rows that a step touches are those that it does something to.
-pub fn touched_rows_change()
-    ensures { TouchedRowsChange }
-{}
-
-/// A step of the namespace that answers with a list changes no row, and but for a Chdir nothing at all.
-pub fn lists_change_nothing()
-    ensures { ListsChangeNothing }
-{}
-
-/// A step of a file that answers with bytes leaves the file as it was, but for the read of a character device.
-pub fn bytes_change_no_file()
-    ensures { BytesChangeNoFile }
-{}
-
 /// A step that is answered makes no list of the namespace longer than it may be.
 pub fn step_keeps_sizes()
     ensures { StepKeepsSizes }
@@ -296,9 +274,4 @@ pub fn shown_bytes_tell_bytes()
 /// The first bad line of an input or of a script depends on no byte behind the lines that were read whole.
 pub fn bad_line_needs_no_later_byte()
     ensures { BadLineNeedsNoLaterByte }
-{}
-
-/// Between steps a row has a live file exactly where a path or a reference names it.
-pub fn file_lives_while_named()
-    ensures { FileLivesWhileNamed }
 {}

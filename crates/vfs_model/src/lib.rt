@@ -6,6 +6,7 @@
 
 mod cache;
 pub mod command_laws;
+pub mod file_laws;
 pub mod laws;
 mod namespace;
 mod script_form;

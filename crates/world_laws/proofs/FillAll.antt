@@ -24,10 +24,11 @@ use Rattle.vfs_model.specs.declared.namespace.RowChange.TheVariants as change
 use Rattle.vfs_model.specs.declared.world.WorldState.{WorldState}
 use Rattle.world_laws.proofs.Agreeing.{Agrees, bind-agrees}
 use Rattle.world_laws.proofs.Binding.{next_generations}
-use Rattle.world_laws.proofs.Filling.{Fill, begins-fit, fill-file, fill-folder, life_of}
+use Rattle.world_laws.proofs.Filling.{Fill, begins-fit, fill-file, fill-folder, life_of, not-behind}
 use Rattle.world_laws.proofs.FreeRows.{some-free}
 use Rattle.world_laws.proofs.Growing.{tree-own}
 use Rattle.world_laws.proofs.OpenKeeping.{taken-pages}
+use Rattle.world_laws.proofs.RomFiles.{Shown, changed-files, shown-file, shown-folder}
 use Rattle.world_laws.proofs.Taking.{with_life}
 use Rattle.std.proofs.lemmas.List.Sums.{sum_by-cons}
 use Rattle.vfs_model.specs.Boxes.{one_if}
@@ -64,6 +65,8 @@ module _ (mount : Mount) where
     pub is : (fold adds (record { next = with_tree m mount.number tree; changes = changes }) left).next ≡ with_tree last mount.number final
     pub pages : (volume cell : ℕ) → cell_capacity last volume cell ≡ cell_capacity m volume cell
     pub files : (v : WorldState) → Agrees (fold change_row v changes) m → Agrees (fold change_row v (fold adds (record { next = with_tree m mount.number tree; changes = changes }) left).changes) last
+    pub shown : (v : WorldState) → length v.files ≡ 1024 → Shown (fold change_row v changes) m tree (kind_of mount.fs) behind →
+        Shown (fold change_row v (fold adds (record { next = with_tree m mount.number tree; changes = changes }) left).changes) last final (kind_of mount.fs) (behind ++ left)
 
   folder-rows : (m : Namespace) (tree : Tree) (p : Path) (changes : List RowChange) → length m.trees ≡ 16 → mount.number < 16 →
       adds (record { next = with_tree m mount.number tree; changes = changes }) (p, None) ≡ record { next = with_tree m mount.number (put path_cmp p node.Dir tree); changes = changes }
@@ -91,6 +94,7 @@ module _ (mount : Mount) where
     is = refl;
     pages = λ volume cell. refl;
     files = λ v a. a;
+    shown = λ v l s. subst (Shown (fold change_row v changes) m tree (kind_of mount.fs)) (sym (append-nil behind)) s;
   }
   fill-all ((p, None) ∷ left) base m tree behind changes l f =
       let more = fill-folder mount base m tree behind left p f in
@@ -103,6 +107,9 @@ module _ (mount : Mount) where
         is = ap (λ r. (fold adds r left).next) rows ∙ later.is;
         pages = later.pages;
         files = λ v a. subst (λ r. Agrees (fold change_row v (fold adds r left).changes) later.last) (sym rows) (later.files v a);
+        shown = λ v e s.
+            let more = shown-folder (fold change_row v changes) m tree (kind_of mount.fs) behind p (not-behind mount p None behind left f.order) s in
+            rw (sym rows, append_assoc behind ((p, None) ∷ []) left) at later.shown v e more;
       }
   fill-all ((p, Some begins) ∷ left) base m tree behind changes l f =
       let row = least_free_row m in
@@ -121,4 +128,11 @@ module _ (mount : Mount) where
         files = λ v a. subst (λ r. Agrees (fold change_row v (fold adds r left).changes) later.last) (sym rows)
             (later.files v (subst (λ w. Agrees w bound) (sym (fold-append change_row v changes (change.Bind (next_file m row) begins ∷ [])))
             (bind-agrees (fold change_row v changes) m row (life_of mount begins) begins free.small f.rest.sizes.live_files f.rest.sizes.generations (begins-fit mount m p begins f.fit.0) a)));
+        shown = λ v e s.
+            let now = fold change_row v changes in
+            let more = shown-file now m tree (kind_of mount.fs) behind p begins row (life_of mount begins) (not-behind mount p (Some begins) behind left f.order) free
+                (changed-files changes v ∙ e) f.rest.sizes.live_files s in
+            let last = subst (λ w. Shown w bound (put path_cmp p (node.File (next_file m row) (kind_of mount.fs)) tree) (kind_of mount.fs) (behind ++ (p, Some begins) ∷ []))
+                (sym (fold-append change_row v changes (change.Bind (next_file m row) begins ∷ []))) more in
+            rw (sym rows, append_assoc behind ((p, Some begins) ∷ []) left) at later.shown v e last;
       }

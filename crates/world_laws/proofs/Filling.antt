@@ -141,7 +141,7 @@ module _ (mount : Mount) where
   below-last x p o (e ∷ behind) left h = below-last x p o behind left (t-second (is_lt (path_cmp x e.0)) _ h)
 
   -- what comes next was not there before
-  not-behind : {X : Type 0} (p : Path) (o : X) (behind left : List (Path × X)) → T (is_sorted path_cmp (behind ++ (p, o) ∷ left)) → value_at path_cmp p behind ≡ None
+  pub not-behind : {X : Type 0} (p : Path) (o : X) (behind left : List (Path × X)) → T (is_sorted path_cmp (behind ++ (p, o) ∷ left)) → value_at path_cmp p behind ≡ None
   not-behind p o [] left h = refl
   not-behind p o (e ∷ behind) left h =
       ap (λ b. cond b (Some e.1) (value_at path_cmp p behind))

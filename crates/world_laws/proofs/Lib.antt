@@ -42,3 +42,5 @@ pub mod ShutdownKeeping
 pub mod StepKeeping
 pub mod WorldSteps
 pub mod Opening
+pub mod RomFiles
+pub mod RomMount

@@ -1,5 +1,6 @@
 -- Mounting keeps what holds between steps.
 use Rattle.std.proofs.Common.{◌≡◌, ◌≢◌, ℕ, suc, ◌-◌, ◌<◌, ◌≤◌, Bool, true, false, not, ◌||◌, ◌&&◌, ◌==◌, Option, Some, None, is_some, List, [], ◌∷◌, ◌++◌, length, map, fold, find, slice_index_or, slice_set, ◌⊎◌, inl, inr, if◌then◌else◌, Ok, refl, sym, ap, subst, ◌∙◌, arith}
+use Rattle.std.proofs.Math.Seq.{drop-append_seam}
 use Rattle.std.proofs.lemmas.Bool.{ltb-false, leb-false}
 use Rattle.std.proofs.lemmas.List.{set-get_or}
 use Rattle.std.proofs.lemmas.List.FromFn.{get_or-range_with_len}
@@ -14,23 +15,28 @@ use Rattle.vfs_base.specs.declared.kinds.FsType.{FsType}
 use Rattle.vfs_base.specs.declared.kinds.FsType.TheVariants as fs
 use Rattle.vfs_base.specs.declared.kinds.NodeKind.{NodeKind}
 use Rattle.vfs_base.specs.declared.kinds.NodeKind.TheVariants as node
+use Rattle.vfs_model.proofs.MountLaws.{mounted-below}
+use Rattle.vfs_model.proofs.MovedLaws.{prefix-append}
 use Rattle.vfs_model.proofs.NodeLaws.{other_mount}
 use Rattle.vfs_model.specs.Chain.{refuse◌when◌, refuse_by}
 use Rattle.vfs_model.specs.Consistency.{IsClosedTree, covered_mount}
 use Rattle.vfs_model.specs.Content.{Content, content_of, file_count, fs_type_of, same_type}
 use Rattle.vfs_model.specs.Homes.{cell_capacity, change_row}
-use Rattle.vfs_model.specs.Lookup.{asked_path, covering_mount, has_folder_within, has_mount_below, has_nodes, is_dir_node, is_file, is_point, is_prefix, is_there, node_at, walk_refusal, with_tree}
+use Rattle.vfs_model.specs.Lookup.{asked_path, covering_mount, nearest, node_in, has_folder_within, has_mount_below, has_nodes, is_dir_node, is_file, is_point, is_prefix, is_there, node_at, walk_refusal, with_tree}
+use Rattle.vfs_model.specs.Laws.{with_mount}
 use Rattle.vfs_model.specs.MountStep.{add_mount, is_taken, is_without_source, least_free_mount, mount_at, mount_refusals, mount_step, without_kept}
 use Rattle.vfs_model.specs.NameSteps.{done}
 use Rattle.vfs_model.specs.Namespace.{all_mounts, folder_of, same_path, tree_of}
 use Rattle.vfs_model.specs.declared.namespace.Mount.{Mount}
+use Rattle.vfs_model.specs.OpenStep.{kind_of}
 use Rattle.vfs_model.specs.declared.namespace.Namespace.{Namespace}
+use Rattle.vfs_model.specs.declared.world.WorldState.{WorldState}
 use Rattle.world_laws.proofs.Adding.{MayMount, not-prefix, own-tree, placed, with_one}
 use Rattle.world_laws.proofs.Agreeing.{Agrees, agrees-beside}
 use Rattle.world_laws.proofs.Binding.{rest-stands}
 use Rattle.world_laws.proofs.Covering.{IsMount, covering-is, covers-prefix, one-number}
 use Rattle.world_laws.proofs.FillAll.{Filled, adds, fill-all}
-use Rattle.world_laws.proofs.Filling.{InTree, node_shape, shape-none}
+use Rattle.world_laws.proofs.Filling.{InTree, content_shape, node_shape, shape-none}
 use Rattle.world_laws.proofs.FreeRows.{free_count}
 use Rattle.world_laws.proofs.Growing.{MayStand, tree-other, tree-own, tree-stands}
 use Rattle.world_laws.proofs.Keeping.{Keeps, Kept, bind-kept, then-kept, there-folder, wanted-kept}
@@ -40,6 +46,7 @@ use Rattle.world_laws.proofs.MoveKeeping.{plain-folder, within-or-not}
 use Rattle.world_laws.proofs.NameKeeping.{not-root}
 use Rattle.world_laws.proofs.Passing.{refuse-passed, then-first, then-rest}
 use Rattle.world_laws.proofs.Points.{point-covers}
+use Rattle.world_laws.proofs.RomFiles.{Shown}
 use Rattle.world_laws.proofs.Standing.{IsUsed, Nothing, Stands}
 use Rattle.world_laws.proofs.Taking.{boxes-all}
 
@@ -63,6 +70,14 @@ shape-dir None h = absurd (omega (arith, h))
 shape-dir (Some node.Dir) h = refl
 shape-dir (Some (node.File id kind)) h = absurd (omega (arith, h))
 
+-- mounts and trees alone tell what stands at a path
+same-nodes : (a b : Namespace) (path : Path) → a.root ≡ b.root → a.mounts ≡ b.mounts → a.trees ≡ b.trees → node_at a path ≡ node_at b path
+unfolding node_at covering_mount
+same-nodes a b path root mounts trees =
+    ap (λ first. node_in (slice_index_or a.trees (nearest path first a.mounts).number []) (drop (length (nearest path first a.mounts).point) path)) root
+    ∙ ap (λ others. node_in (slice_index_or a.trees (nearest path b.root others).number []) (drop (length (nearest path b.root others).point) path)) mounts
+    ∙ ap (λ all. node_in (slice_index_or all (nearest path b.root b.mounts).number []) (drop (length (nearest path b.root b.mounts).point) path)) trees
+
 module _ (n : Namespace) (mount : Mount) (s : Stands Nothing n) (may : MayMount n mount) (taken : is_taken n mount.fs mount.source ≡ false)
     (room : file_count (content_of n mount.fs mount.source) ≤ free_count n) (away : (k : ℕ) → is_prefix mount.point (folder_of n k) ≡ false) where
   abbrev base : Namespace
@@ -83,7 +98,7 @@ module _ (n : Namespace) (mount : Mount) (s : Stands Nothing n) (may : MayMount 
   base-same fs.Cell = (refl, refl, refl, refl, refl)
   base-same fs.Dev = (refl, refl, refl, refl, refl)
 
-  all : Filled mount (without_kept (with_one n mount) mount.fs mount.source) (without_kept (with_one n mount) mount.fs mount.source) [] [] (content_of n mount.fs mount.source) []
+  pub all : Filled mount (without_kept (with_one n mount) mount.fs mount.source) (without_kept (with_one n mount) mount.fs mount.source) [] [] (content_of n mount.fs mount.source) []
   all = fill-all mount (content_of n mount.fs mount.source) (without_kept (with_one n mount) mount.fs mount.source) (without_kept (with_one n mount) mount.fs mount.source) [] [] [] may.small (begins.fill)
 
   last : Namespace
@@ -189,6 +204,35 @@ module _ (n : Namespace) (mount : Mount) (s : Stands Nothing n) (may : MayMount 
   unfolding add_mount
   added = ap (λ b. fold (adds mount) (record { next = b; changes = [] }) (content_of n mount.fs mount.source)) (sym begins-empty)
 
+  -- the files of a rom that is mounted have its bytes
+  pub added-shown : (v : WorldState) → length v.files ≡ 1024 →
+      Shown (fold change_row v (add_mount n mount).changes) (all.last) (all.final) (kind_of mount.fs) (content_of n mount.fs mount.source)
+  added-shown v l =
+      subst (λ r. Shown (fold change_row v r.changes) (all.last) (all.final) (kind_of mount.fs) (content_of n mount.fs mount.source)) (sym added)
+      (all.shown v l (λ p place at h. absurd (cc)))
+
+  -- what the mount was filled with has the shape of its content
+  pub added-shape : (p : Path) → node_shape (value_at path_cmp p (all.final)) ≡ content_shape (value_at path_cmp p (content_of n mount.fs mount.source))
+  added-shape = all.fill.shape
+
+  base-root : (f : FsType) → (without_kept (with_one n mount) f mount.source).root ≡ n.root
+  base-root fs.Tmp = refl
+  base-root fs.Rom = refl
+  base-root fs.Cell = refl
+  base-root fs.Dev = refl
+
+  -- below its point the mount shows what it was filled with
+  pub added-node : (p : Path) → node_at (add_mount n mount).next (mount.point ++ p) ≡ node_in (all.final) p
+  added-node p =
+      let filled : (add_mount n mount).next ≡ with_tree (all.last) mount.number (all.final) = ap (λ r. r.next) added ∙ all.is in
+      ap (λ m. node_at m (mount.point ++ p)) filled
+      ∙ same-nodes (with_tree (all.last) mount.number (all.final)) (with_mount n mount (all.final)) (mount.point ++ p)
+        (all.fill.root ∙ base-root mount.fs) (all.fill.mounts ∙ (base-same mount.fs).1)
+        (ap (λ trees. slice_set trees mount.number (all.final)) (all.fill.trees ∙ (base-same mount.fs).0))
+      ∙ mounted-below n mount (all.final) (mount.point ++ p) s.working_directories.root.0 may.clear
+        (subst (λ x. mount.number < x) (sym s.sizes.trees) may.small) (prefix-append mount.point p)
+      ∙ ap (node_in (all.final)) (drop-append_seam mount.point p)
+
   pub added-kept : Keeps n (add_mount n mount).next (add_mount n mount).changes
   added-kept = record {
     stands = subst (Stands Nothing) (sym (ap (λ r. r.next) added ∙ all.is)) final-stands;
@@ -241,45 +285,62 @@ free-number n l = elim (below-or-past (least_free_mount n) 16) [
       absurd (omega (arith, many, same, l))
 ]
 
+-- what a mount needs to begin, where none of its refusals holds
+pub record MayBegin (n : Namespace) (mount : Mount) : Type 0 where
+  pub may : MayMount n mount
+  pub taken : is_taken n mount.fs mount.source ≡ false
+  pub room : file_count (content_of n mount.fs mount.source) ≤ free_count n
+  pub away : (k : ℕ) → is_prefix mount.point (folder_of n k) ≡ false
+
+-- the mount that a step adds
+abbrev pub new_mount : Namespace → Path → FsType → List ℕ → Mount
+new_mount n path asked source = record { number = least_free_mount n; point = path; fs = asked; source = source }
+
+pub may-begin : (n : Namespace) (path : Path) (asked : FsType) (source : List ℕ) → Stands Nothing n → mount_refusals n path asked source ≡ Ok tt →
+    MayBegin n (new_mount n path asked source)
+unfolding mount_refusals
+may-begin n path asked source s h =
+    let r1 = then-rest (refuse_by (walk_refusal n path)) _ tt h in
+    let present = refuse-passed errno.ENOENT (not (is_there n path)) (then-first (refuse errno.ENOENT when (not (is_there n path))) _ tt r1) in
+    let r2 = then-rest (refuse errno.ENOENT when (not (is_there n path))) _ tt r1 in
+    let folder = refuse-passed errno.ENOTDIR (is_file n path) (then-first (refuse errno.ENOTDIR when (is_file n path)) _ tt r2) in
+    let r3 = then-rest (refuse errno.ENOTDIR when (is_file n path)) _ tt r2 in
+    let busy = is_point n path || has_mount_below n path || has_folder_within n path in
+    let free = refuse-passed errno.EBUSY busy (then-first (refuse errno.EBUSY when busy) _ tt r3) in
+    let r4 = then-rest (refuse errno.EBUSY when busy) _ tt r3 in
+    let bare = refuse-passed errno.ENOTEMPTY (has_nodes n path) (then-first (refuse errno.ENOTEMPTY when (has_nodes n path)) _ tt r4) in
+    let r5 = then-rest (refuse errno.ENOTEMPTY when (has_nodes n path)) _ tt r4 in
+    let few = refuse-passed errno.ENOSPC (nat_le 16 (length (all_mounts n))) (then-first (refuse errno.ENOSPC when (nat_le 16 (length (all_mounts n)))) _ tt r5) in
+    let r6 = then-rest (refuse errno.ENOSPC when (nat_le 16 (length (all_mounts n)))) _ tt r5 in
+    let without = is_without_source n asked source || (same_type asked fs.Cell && n.is_stopped) in
+    let r7 = then-rest (refuse errno.ENXIO when without) _ tt r6 in
+    let taken = refuse-passed errno.EBUSY (is_taken n asked source) (then-first (refuse errno.EBUSY when (is_taken n asked source)) _ tt r7) in
+    let short = nat_lt (free_count n) (file_count (content_of n asked source)) in
+    let room = refuse-passed errno.ENOSPC short (then-rest (refuse errno.EBUSY when (is_taken n asked source)) _ tt r7) in
+    let unpointed = nor-first (is_point n path) (has_mount_below n path) (nor-first (is_point n path || has_mount_below n path) (has_folder_within n path) free) in
+    let unmounted = nor-second (is_point n path) (has_mount_below n path) (nor-first (is_point n path || has_mount_below n path) (has_folder_within n path) free) in
+    let away = nor-second (is_point n path || has_mount_below n path) (has_folder_within n path) free in
+    let fewer : length (all_mounts n) < 16 = leb-false 16 (length (all_mounts n)) few in
+    let number = free-number n fewer in
+    record {
+      may = record {
+        folder = there-folder (node_at n path) present folder;
+        bare = bare;
+        clear = plain-folder n path unpointed unmounted;
+        own = number.1;
+        small = number.0;
+        room = omega (arith, fewer);
+      };
+      taken = taken;
+      room = ltb-false (free_count n) (file_count (content_of n asked source)) room;
+      away = λ j. within-or-not n path j (not-root n path s.working_directories unpointed) away;
+    }
+
 pub mount-kept : (n : Namespace) (k : ℕ) (source point_text type_text : List ℕ) → Stands Nothing n → Kept n (mount_step n k source point_text type_text)
-unfolding mount_at mount_refusals
+unfolding mount_at
 mount-kept n k source point_text type_text s =
     bind-kept n (asked_path n k point_text) _ (λ path e.
     wanted-kept n errno.ENODEV (fs_type_of type_text) _ (λ asked known.
-    then-kept n (mount_refusals n path asked source) _ (λ h. passed path asked h)))
-  where
-    passed : (path : Path) (asked : FsType) → mount_refusals n path asked source ≡ Ok tt →
-        Kept n (done (add_mount n (record { number = least_free_mount n; point = path; fs = asked; source = source })))
-    passed path asked h =
-        let r1 = then-rest (refuse_by (walk_refusal n path)) _ tt h in
-        let present = refuse-passed errno.ENOENT (not (is_there n path)) (then-first (refuse errno.ENOENT when (not (is_there n path))) _ tt r1) in
-        let r2 = then-rest (refuse errno.ENOENT when (not (is_there n path))) _ tt r1 in
-        let folder = refuse-passed errno.ENOTDIR (is_file n path) (then-first (refuse errno.ENOTDIR when (is_file n path)) _ tt r2) in
-        let r3 = then-rest (refuse errno.ENOTDIR when (is_file n path)) _ tt r2 in
-        let busy = is_point n path || has_mount_below n path || has_folder_within n path in
-        let free = refuse-passed errno.EBUSY busy (then-first (refuse errno.EBUSY when busy) _ tt r3) in
-        let r4 = then-rest (refuse errno.EBUSY when busy) _ tt r3 in
-        let bare = refuse-passed errno.ENOTEMPTY (has_nodes n path) (then-first (refuse errno.ENOTEMPTY when (has_nodes n path)) _ tt r4) in
-        let r5 = then-rest (refuse errno.ENOTEMPTY when (has_nodes n path)) _ tt r4 in
-        let few = refuse-passed errno.ENOSPC (nat_le 16 (length (all_mounts n))) (then-first (refuse errno.ENOSPC when (nat_le 16 (length (all_mounts n)))) _ tt r5) in
-        let r6 = then-rest (refuse errno.ENOSPC when (nat_le 16 (length (all_mounts n)))) _ tt r5 in
-        let without = is_without_source n asked source || (same_type asked fs.Cell && n.is_stopped) in
-        let r7 = then-rest (refuse errno.ENXIO when without) _ tt r6 in
-        let taken = refuse-passed errno.EBUSY (is_taken n asked source) (then-first (refuse errno.EBUSY when (is_taken n asked source)) _ tt r7) in
-        let short = nat_lt (free_count n) (file_count (content_of n asked source)) in
-        let room = refuse-passed errno.ENOSPC short (then-rest (refuse errno.EBUSY when (is_taken n asked source)) _ tt r7) in
-        let unpointed = nor-first (is_point n path) (has_mount_below n path) (nor-first (is_point n path || has_mount_below n path) (has_folder_within n path) free) in
-        let unmounted = nor-second (is_point n path) (has_mount_below n path) (nor-first (is_point n path || has_mount_below n path) (has_folder_within n path) free) in
-        let away = nor-second (is_point n path || has_mount_below n path) (has_folder_within n path) free in
-        let fewer : length (all_mounts n) < 16 = leb-false 16 (length (all_mounts n)) few in
-        let number = free-number n fewer in
-        let may : MayMount n (record { number = least_free_mount n; point = path; fs = asked; source = source }) = record {
-          folder = there-folder (node_at n path) present folder;
-          bare = bare;
-          clear = plain-folder n path unpointed unmounted;
-          own = number.1;
-          small = number.0;
-          room = omega (arith, fewer);
-        } in
-        added-kept n (record { number = least_free_mount n; point = path; fs = asked; source = source }) s may taken (ltb-false (free_count n) (file_count (content_of n asked source)) room)
-        (λ j. within-or-not n path j (not-root n path s.working_directories unpointed) away)
+    then-kept n (mount_refusals n path asked source) _ (λ h.
+    let begin = may-begin n path asked source s h in
+    added-kept n (new_mount n path asked source) s begin.may begin.taken begin.room begin.away)))

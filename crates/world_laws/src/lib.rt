@@ -4,6 +4,7 @@
 //! docs/STEPS.md, "What holds between steps". It has no code, and knows none.
 #![tactic(auto)]
 
+ghost use Rattle.world_laws.specs.Mounted.{MountedRomShowsItsFiles};
 ghost use Rattle.world_laws.specs.Keeping.{FileStepsKeepConsistency, OpeningIsConsistent, RunsKeepConsistency, StepsKeepConsistency};
 
 /// The world at the start of every script is consistent, whatever devices there are: the roms of a script are trees.
@@ -24,4 +25,9 @@ pub fn steps_keep_consistency()
 /// Steps that may be asked one after the other keep the world consistent.
 pub fn runs_keep_consistency()
     ensures { RunsKeepConsistency }
+{}
+
+/// Below the point of a rom that was mounted stands what the rom has, with its bytes, and nothing else.
+pub fn mounted_rom_shows_its_files()
+    ensures { MountedRomShowsItsFiles }
 {}
