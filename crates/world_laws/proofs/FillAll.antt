@@ -131,8 +131,8 @@ module _ (mount : Mount) where
         shown = λ v e s.
             let now = fold change_row v changes in
             let more = shown-file now m tree (kind_of mount.fs) behind p begins row (life_of mount begins) (not-behind mount p (Some begins) behind left f.order) free
-                (changed-files changes v ∙ e) f.rest.sizes.live_files s in
+            (changed-files changes v ∙ e) f.rest.sizes.live_files s in
             let last = subst (λ w. Shown w bound (put path_cmp p (node.File (next_file m row) (kind_of mount.fs)) tree) (kind_of mount.fs) (behind ++ (p, Some begins) ∷ []))
-                (sym (fold-append change_row v changes (change.Bind (next_file m row) begins ∷ []))) more in
+            (sym (fold-append change_row v changes (change.Bind (next_file m row) begins ∷ []))) more in
             rw (sym rows, append_assoc behind ((p, Some begins) ∷ []) left) at later.shown v e last;
       }

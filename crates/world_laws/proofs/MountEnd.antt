@@ -1,5 +1,5 @@
 -- Mounting keeps what holds between steps.
-use Rattle.std.proofs.Common.{◌≡◌, ◌≢◌, ℕ, suc, ◌-◌, ◌<◌, ◌≤◌, Bool, true, false, not, ◌||◌, ◌&&◌, ◌==◌, Option, Some, None, is_some, List, [], ◌∷◌, ◌++◌, length, map, fold, find, slice_index_or, slice_set, ◌⊎◌, inl, inr, if◌then◌else◌, Ok, refl, sym, ap, subst, ◌∙◌, arith}
+use Rattle.std.proofs.Common.{◌≡◌, ◌≢◌, ℕ, suc, ◌-◌, ◌<◌, ◌≤◌, Bool, true, false, not, ◌||◌, ◌&&◌, ◌==◌, Option, Some, None, is_some, List, [], ◌∷◌, ◌++◌, length, drop, map, fold, find, slice_index_or, slice_set, ◌⊎◌, inl, inr, if◌then◌else◌, Ok, refl, sym, ap, subst, ◌∙◌, arith}
 use Rattle.std.proofs.Math.Seq.{drop-append_seam}
 use Rattle.std.proofs.lemmas.Bool.{ltb-false, leb-false}
 use Rattle.std.proofs.lemmas.List.{set-get_or}
@@ -227,10 +227,10 @@ module _ (n : Namespace) (mount : Mount) (s : Stands Nothing n) (may : MayMount 
       let filled : (add_mount n mount).next ≡ with_tree (all.last) mount.number (all.final) = ap (λ r. r.next) added ∙ all.is in
       ap (λ m. node_at m (mount.point ++ p)) filled
       ∙ same-nodes (with_tree (all.last) mount.number (all.final)) (with_mount n mount (all.final)) (mount.point ++ p)
-        (all.fill.root ∙ base-root mount.fs) (all.fill.mounts ∙ (base-same mount.fs).1)
-        (ap (λ trees. slice_set trees mount.number (all.final)) (all.fill.trees ∙ (base-same mount.fs).0))
+      (all.fill.root ∙ base-root mount.fs) (all.fill.mounts ∙ (base-same mount.fs).1)
+      (ap (λ trees. slice_set trees mount.number (all.final)) (all.fill.trees ∙ (base-same mount.fs).0))
       ∙ mounted-below n mount (all.final) (mount.point ++ p) s.working_directories.root.0 may.clear
-        (subst (λ x. mount.number < x) (sym s.sizes.trees) may.small) (prefix-append mount.point p)
+      (subst (λ x. mount.number < x) (sym s.sizes.trees) may.small) (prefix-append mount.point p)
       ∙ ap (node_in (all.final)) (drop-append_seam mount.point p)
 
   pub added-kept : Keeps n (add_mount n mount).next (add_mount n mount).changes

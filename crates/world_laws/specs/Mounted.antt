@@ -1,0 +1,40 @@
+-- What a mounted rom shows.
+use Rattle.std.specs.Prelude.{◌≡◌, ◌≢◌, ℕ, Option, Some, None, List, [], ◌++◌, Ok, slice_index_or}
+use Rattle.std.specs.FinMap.Entries.{find as value_at}
+use Rattle.vfs_base.specs.Path.{Path, path_cmp}
+use Rattle.vfs_base.specs.declared.entry.Mark.TheVariants as mark
+use Rattle.vfs_base.specs.declared.entry.Who.TheVariants as who
+use Rattle.vfs_base.specs.declared.ids.FileId.{FileId}
+use Rattle.vfs_base.specs.declared.kinds.FsType.TheVariants as fs
+use Rattle.vfs_base.specs.declared.kinds.Kind.TheVariants as kind
+use Rattle.vfs_base.specs.declared.kinds.NodeKind.{NodeKind}
+use Rattle.vfs_base.specs.declared.kinds.NodeKind.TheVariants as node
+use Rattle.vfs_base.specs.declared.reply.Reply.TheVariants as reply
+use Rattle.vfs_base.specs.declared.step.Step.TheVariants as step
+use Rattle.vfs_model.specs.Boxes.{IsConsistent}
+use Rattle.vfs_model.specs.Content.{fs_type_of, no_rom, rom_at}
+use Rattle.vfs_model.specs.Homes.{bytes_of, file_at}
+use Rattle.vfs_model.specs.Lookup.{asked_path, node_at}
+use Rattle.vfs_model.specs.World.{world_step}
+use Rattle.vfs_model.specs.declared.namespace.Namespace.{Namespace}
+use Rattle.vfs_model.specs.declared.namespace.RomNode.{RomNode}
+use Rattle.vfs_model.specs.declared.namespace.RomNode.TheVariants as rom
+use Rattle.vfs_model.specs.declared.world.WorldState.{WorldState}
+
+-- what a rom has at a path stands there: nothing, a folder, or a file of the rom's bytes
+abbrev pub ShowsNode : WorldState → Option RomNode → Option NodeKind → Type 0
+ShowsNode v None found = found ≡ None
+ShowsNode v (Some rom.Dir) found = found ≡ Some node.Dir
+ShowsNode v (Some (rom.File bytes)) found = (id : FileId) × (found ≡ Some (node.File id kind.Rom)) × (bytes_of (file_at v id.row) ≡ bytes)
+
+-- what the rom of this name has at each path
+abbrev pub rom_nodes : Namespace → List ℕ → List (Path × RomNode)
+rom_nodes n source = (slice_index_or n.roms (rom_at n source) no_rom).nodes
+
+-- below the point of a rom that was mounted stands what the rom has, and nothing else
+abbrev pub MountedRomShowsItsFiles : Type 0
+MountedRomShowsItsFiles = (w : WorldState) (k : ℕ) (source point_text type_text : List ℕ) (path p : Path) → IsConsistent w →
+    asked_path w.namespace k point_text ≡ Ok path → fs_type_of type_text ≡ Some fs.Rom →
+    (world_step w (who.Session k) (step.Mount source point_text type_text) mark.Clear).reply ≡ reply.Done → p ≢ [] →
+    ShowsNode (world_step w (who.Session k) (step.Mount source point_text type_text) mark.Clear).next (value_at path_cmp p (rom_nodes w.namespace source))
+    (node_at (world_step w (who.Session k) (step.Mount source point_text type_text) mark.Clear).next.namespace (path ++ p))
