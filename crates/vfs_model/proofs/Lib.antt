@@ -40,6 +40,8 @@ pub mod RefusalExamples
 pub mod RefusedSteps
 pub mod RenameLaws
 pub mod ReplyTaking
+pub mod RestExamples
+pub mod Rests
 pub mod RowShapes
 pub mod ScheduleExactness
 pub mod ScheduleExamples

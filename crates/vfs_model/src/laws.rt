@@ -8,6 +8,7 @@ ghost use Rattle.vfs_model.specs.ShellLaws.{AddedMappingGoesBack, DupSharesFile,
 ghost use Rattle.vfs_model.specs.Laws.{RefusedStepChangesNothing, WorkerChangesNothing, CoveringMountIsLongest, RefusedWorldStaysSame, PutNodeStands, TakenNodeIsGone, NormalPathHasNormalNames, PrintedPathNamesItself, MountShowsItsTree, UnmountLeavesOtherMounts, MovedSubtreeStands, RenamedSubtreeStands, EmptyMountChangesNoNode};
 ghost use Rattle.vfs_model.specs.FileLaws.{StepChangesOneFile, WriteMovesItsPiece, WrittenIsRead};
 ghost use Rattle.vfs_model.specs.PageList.{WordsTellPages};
+ghost use Rattle.vfs_model.specs.RestLaws.{RestStaysSame, ShutdownLeavesRest};
 ghost use Rattle.vfs_model.specs.RowShape.{RefusalsNeedNoBytes};
 ghost use Rattle.vfs_model.specs.Tally.{AskedStepsLeadOn};
 ghost use Rattle.vfs_model.specs.TranscriptLaws.{PrintedScheduleIsRead, ReadScheduleIsPrinted, TranscriptNeedsEachEntry, UndefinedTranscriptHasPlace, FrontHasTranscript, WholeScheduleEndsLast, ScriptSaysTurns, EachBlockShowsItsLine, ShownBlocksStay, PendingStepIsWanted, ScriptGoesOn};
@@ -230,4 +231,14 @@ pub fn step_changes_one_file()
 /// The stored pages of a file in rising order, and the sixteen words of their set, tell the same.
 pub fn words_tell_pages()
     ensures { WordsTellPages }
+{}
+
+/// After a Shutdown that memory allows, no reference is left and each session is in `/`, whatever was in use before.
+pub fn shutdown_leaves_rest()
+    ensures { ShutdownLeavesRest }
+{}
+
+/// Where nothing is in use, the end has nothing to bring to rest: it unmounts, and frees nothing before.
+pub fn rest_stays_same()
+    ensures { RestStaysSame }
 {}
