@@ -3,6 +3,7 @@ pub mod Brings
 pub mod ContentSizes
 pub mod Keeps
 pub mod Numbers
+pub mod Rests
 pub mod SizedMounts
 pub mod SizedUnmounts
 pub mod Starts

@@ -1,10 +1,10 @@
 -- Unmounting and formatting make nothing larger than it may be, and free rows only.
-use Rattle.std.proofs.Common.{◌≡◌, ℕ, zero, suc, ◌≤◌, List, [], ◌∷◌, ◌++◌, ◌==◌, length, map, reverse, replicate, slice_index_or, refl, ap, sym, subst, ◌∙◌, arith}
+use Rattle.std.proofs.Common.{◌≡◌, ℕ, zero, suc, ◌-◌, ◌≤◌, List, [], ◌∷◌, ◌++◌, ◌==◌, length, map, reverse, replicate, slice_index_or, refl, ap, sym, subst, ◌∙◌, arith}
 use Rattle.std.specs.Prelude.{Bool, true, false, cond, not, ◌||◌, Option, Some, None, Result, Ok, Err, IfOk, OnErr, filter, fold, slice_set}
 use Rattle.std.specs.List.{list_all, list_any}
 use Rattle.std.proofs.lemmas.Bool.Decides.{nat_tests}
 use Rattle.std.proofs.lemmas.List.{length-map, length-replicate}
-use Rattle.vfs_base.specs.Path.{Path}
+use Rattle.vfs_base.specs.Path.{Path, printed}
 use Rattle.vfs_base.specs.declared.errno.Errno.{Errno}
 use Rattle.vfs_base.specs.declared.errno.Errno.TheVariants as errno
 use Rattle.vfs_base.specs.declared.kinds.NodeKind.{NodeKind}
@@ -13,12 +13,13 @@ use Rattle.vfs_base.specs.declared.kinds.FsType.{FsType}
 use Rattle.vfs_base.specs.declared.kinds.FsType.TheVariants as fs
 use Rattle.vfs_model.specs.Chain.{◌>>=◌, ◌>>◌, refuse◌when◌, wanted}
 use Rattle.vfs_model.specs.Consistency.{is_number}
-use Rattle.vfs_model.specs.FileLife.{Rows, after_end, backing_of, end_of_unmounted, free_row, no_volume, volume_at, volume_named}
+use Rattle.vfs_model.specs.FileLife.{Rows, after_end, backing_of, end_of_dropped, end_of_unmounted, free_row, no_volume, volume_at, volume_named}
 use Rattle.vfs_model.specs.Lookup.{asked_path}
 use Rattle.vfs_model.specs.NameSteps.{done}
 use Rattle.vfs_model.specs.Namespace.{Tree, life_at, tree_of}
 use Rattle.vfs_model.specs.NamespaceOutcome.{NamespaceOutcome}
-use Rattle.vfs_model.specs.UmountSteps.{empty_mount, format_volume, is_busy, keep_names, kept_node, mount_at_point, remove_all, remove_mount, rows_of_mount, umount_at, umount_step}
+use Rattle.vfs_model.specs.UmountSteps.{come_to_rest, empty_mount, format_volume, is_busy, keep_names, kept_node, mount_at_point, remove_all, remove_mount, rows_of_mount, umount_at, umount_step, unlinked_rows, unreferred}
+use Rattle.vfs_model.specs.declared.namespace.Backing.{Backing}
 use Rattle.vfs_model.specs.declared.namespace.End.{End}
 use Rattle.vfs_model.specs.declared.namespace.End.TheVariants as end
 use Rattle.vfs_model.specs.declared.namespace.KeptNode.{KeptNode}
@@ -75,17 +76,17 @@ sized_names n mount fs.Cell s =
     sized_volume n place (record (volume_at n place) { kept = names }) s
     (s.spares place) (s.pages place) (omega (arith, same, s.trees mount.number))
 
-sized_rows : (rows : Rows) (list : List ℕ) → IsSized rows.next → IsSized (fold (free_row end_of_unmounted) rows list).next
+sized_rows : (ending : Backing → End) (rows : Rows) (list : List ℕ) → IsSized rows.next → IsSized (fold (free_row ending) rows list).next
 unfolding free_row
-sized_rows rows [] s = s
-sized_rows rows (row ∷ list) s =
-    sized_rows (free_row end_of_unmounted rows row) list
-    (sized_freed rows.next row (end_of_unmounted (backing_of (life_at rows.next row))) s)
+sized_rows ending rows [] s = s
+sized_rows ending rows (row ∷ list) s =
+    sized_rows ending (free_row ending rows row) list
+    (sized_freed rows.next row (ending (backing_of (life_at rows.next row))) s)
 
 sized_emptied : (rows : Rows) (mount : Mount) → IsSized rows.next → IsSized (empty_mount rows mount).next
 unfolding empty_mount
 sized_emptied rows mount s =
-    sized_rows _ (rows_of_mount rows.next mount.number)
+    sized_rows end_of_unmounted _ (rows_of_mount rows.next mount.number)
     (sized_tree (keep_names rows.next mount mount.fs) mount.number [] (sized_names rows.next mount mount.fs s) (omega arith) (λ no. refl))
 
 pub sized_mounts : (n : Namespace) (mounts : List Mount) → IsSized n → length mounts ≤ 15 →
@@ -169,11 +170,41 @@ sized_mounts_gone : (rows : Rows) (mounts : List Mount) → IsSized rows.next �
 sized_mounts_gone rows [] s = s
 sized_mounts_gone rows (mount ∷ mounts) s = sized_mounts_gone (remove_mount rows mount) mounts (sized_removed rows mount s)
 
+-- each session is in `/`
+home_at : (folders : List Path) (place : ℕ) → let all : List Path = map (λ folder. []) folders in slice_index_or all place [] ≡ []
+home_at [] place = refl
+home_at (folder ∷ folders) zero = refl
+home_at (folder ∷ folders) (suc place) = home_at folders place
+
+sized_unreferred : (n : Namespace) → IsSized n → IsSized (unreferred n)
+sized_unreferred n s =
+    let references : length (unreferred n).references ≡ length n.references = length-map n.references _ in
+    let folders : length (unreferred n).working_directories ≡ length n.working_directories = length-map n.working_directories _ in
+    record {
+      live_files = s.live_files;
+      generations = s.generations;
+      references = omega (arith, references, s.references);
+      working_directories = omega (arith, folders, s.working_directories);
+      short = λ k. subst (λ path. length (printed path) ≤ 1024) (sym (home_at n.working_directories (k - 1))) (omega arith);
+      mounts = s.mounts;
+      places = s.places;
+      trees = λ j. s.trees j;
+      spares = λ v. s.spares v;
+      pages = λ v. s.pages v;
+      kept = λ v. s.kept v;
+      roms = λ place. s.roms place;
+      unused = λ number h. s.unused number h;
+    }
+
+sized_rest : (n : Namespace) → IsSized n → IsSized (come_to_rest n).next
+unfolding come_to_rest
+sized_rest n s = sized_rows end_of_dropped (record { next = unreferred n; changes = [] }) (unlinked_rows n) (sized_unreferred n s)
+
 -- at the end
 sized_end_of_all : (n : Namespace) (rows : Rows) → remove_all n ≡ rows → IsSized n → IsSized rows.next
 unfolding remove_all
 sized_end_of_all n rows e s =
-    rw (sym e) (sized_emptied _ n.root (sized_mounts_gone (record { next = n; changes = [] }) (reverse n.mounts) s))
+    rw (sym e) (sized_emptied _ n.root (sized_mounts_gone (come_to_rest n) (reverse n.mounts) (sized_rest n s)))
 
 next_of : Namespace → Result NamespaceOutcome Errno → Namespace
 next_of n (Ok outcome) = outcome.next
@@ -218,15 +249,15 @@ one_more : (changes : List RowChange) (change : RowChange) → list_all frees ch
 one_more [] change h f = cc (f)
 one_more (first ∷ changes) change h f = grind (arith, one_more changes change, h, f)
 
-rows_free : (rows : Rows) (list : List ℕ) → list_all frees rows.changes ≡ true →
-    list_all frees (fold (free_row end_of_unmounted) rows list).changes ≡ true
+rows_free : (ending : Backing → End) (rows : Rows) (list : List ℕ) → list_all frees rows.changes ≡ true →
+    list_all frees (fold (free_row ending) rows list).changes ≡ true
 unfolding free_row
-rows_free rows [] h = h
-rows_free rows (row ∷ list) h = rows_free (free_row end_of_unmounted rows row) list (one_more rows.changes _ h refl)
+rows_free ending rows [] h = h
+rows_free ending rows (row ∷ list) h = rows_free ending (free_row ending rows row) list (one_more rows.changes _ h refl)
 
 removed_frees : (rows : Rows) (mount : Mount) → list_all frees rows.changes ≡ true → list_all frees (remove_mount rows mount).changes ≡ true
 unfolding remove_mount empty_mount
-removed_frees rows mount h = rows_free _ (rows_of_mount rows.next mount.number) h
+removed_frees rows mount h = rows_free end_of_unmounted _ (rows_of_mount rows.next mount.number) h
 
 mounts_free : (rows : Rows) (mounts : List Mount) → list_all frees rows.changes ≡ true → list_all frees (fold remove_mount rows mounts).changes ≡ true
 mounts_free rows [] h = h
@@ -234,12 +265,16 @@ mounts_free rows (mount ∷ mounts) h = mounts_free (remove_mount rows mount) mo
 
 emptied_frees : (rows : Rows) (mount : Mount) → list_all frees rows.changes ≡ true → list_all frees (empty_mount rows mount).changes ≡ true
 unfolding empty_mount
-emptied_frees rows mount h = rows_free _ (rows_of_mount rows.next mount.number) h
+emptied_frees rows mount h = rows_free end_of_unmounted _ (rows_of_mount rows.next mount.number) h
+
+rest_frees : (n : Namespace) → list_all frees (come_to_rest n).changes ≡ true
+unfolding come_to_rest
+rest_frees n = rows_free end_of_dropped (record { next = unreferred n; changes = [] }) (unlinked_rows n) refl
 
 end_of_all_frees : (n : Namespace) (rows : Rows) → remove_all n ≡ rows → list_all frees rows.changes ≡ true
 unfolding remove_all
 end_of_all_frees n rows e =
-    rw (sym e) (emptied_frees _ n.root (mounts_free (record { next = n; changes = [] }) (reverse n.mounts) refl))
+    rw (sym e) (emptied_frees _ n.root (mounts_free (come_to_rest n) (reverse n.mounts) (rest_frees n)))
 
 umount_frees : (n : Namespace) (k : ℕ) (text : List ℕ) (outcome : NamespaceOutcome) →
     umount_step n k text ≡ Ok outcome → list_all frees outcome.changes ≡ true

@@ -1,3 +1,4 @@
 pub mod Leaving
 pub mod Mounting
+pub mod Resting
 pub mod Unmounting

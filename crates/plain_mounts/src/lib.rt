@@ -12,6 +12,7 @@ mod formatting;
 mod leaving;
 mod mount_steps;
 mod mounting;
+mod resting;
 mod unmounting;
 
 pub use mount_steps::{mkfs_in, mount_in, shut_down, umount_in};

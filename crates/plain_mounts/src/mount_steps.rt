@@ -98,9 +98,9 @@ pub fn umount_in(
     Ok(Reply::Done)
 }
 
-/// The end: all mounts but `/` go, the last one first, and `/` loses its nodes. After a fault of a device
-/// this is done all the same, the reply is `EIO`, and the namespace remembers it; under want of memory
-/// the reply is `ENOMEM`, and nothing changes.
+/// The end: the references that are left go, and each session into `/`; then all mounts but `/` go, the
+/// last one first, and `/` loses its nodes. After a fault of a device this is done all the same, the reply
+/// is `EIO`, and the namespace remembers it; under want of memory the reply is `ENOMEM`, and nothing changes.
 #[tactic(auto, unfolding(vfs_model::specs::NamespaceStep::shutdown_step))]
 pub fn shut_down(world: &mut WorldState, alloc: Global, mark: Mark) -> Result<Reply, NoMemory>
     requires { IsSized world.old.namespace }

@@ -15,6 +15,7 @@ ghost use Rattle.plain_nodes.specs.Sizes.{IsSized};
 ghost use Rattle.plain_mounts.specs.Unmounting.{HasRoom, umount_refusals};
 
 use crate::leaving::{Leaving, empty_mount, make_leaving, remove_mount};
+use crate::resting::come_to_rest;
 use plain_nodes::asking::asked_path;
 use plain_nodes::changes::Change;
 use plain_nodes::lookup::{covering_mount, has_mount_below};
@@ -163,7 +164,7 @@ fn leaving_mount(
     Ok(make_leaving(namespace, alloc, mount)?)
 }
 
-/// All mounts but `/` go in reverse order, and `/` loses all its nodes.
+/// Nothing is in use any more; then all mounts but `/` go in reverse order, and `/` loses all its nodes.
 pub fn unmount_all(namespace: &mut Namespace, alloc: Global) -> Result<List<Change>, NoMemory>
     requires { IsSized namespace.old }
     ensures ok { IfOk result (λ changes. remove_all namespace.old
@@ -175,7 +176,7 @@ pub fn unmount_all(namespace: &mut Namespace, alloc: Global) -> Result<List<Chan
     unmount_each(namespace, alloc)
 }
 
-#[tactic(auto, unfolding(vfs_model::specs::UmountSteps::remove_all))]
+#[tactic(auto, using(crate::proofs::Unmounts::room_stays), unfolding(vfs_model::specs::UmountSteps::remove_all))]
 fn unmount_each(namespace: &mut Namespace, alloc: Global) -> Result<List<Change>, NoMemory>
     requires { length namespace.old.live_files ≡ 1024 }
     ensures ok { IfOk result (λ changes. remove_all namespace.old
@@ -185,6 +186,7 @@ fn unmount_each(namespace: &mut Namespace, alloc: Global) -> Result<List<Change>
     let leaving = make_all_leaving(namespace, alloc)?;
     let Leaving { mount, room } = make_leaving(namespace, alloc, &namespace.root)?;
     let mut changes = room_for_changes(namespace, alloc)?;
+    come_to_rest(namespace, alloc, &mut changes);
     remove_mounts(namespace, alloc, leaving, &mut changes);
     empty_mount(namespace, alloc, &mount, room, &mut changes);
     Ok(List::from_vec(changes))

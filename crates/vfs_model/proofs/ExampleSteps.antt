@@ -34,7 +34,7 @@ use Rattle.vfs_model.specs.NamespaceStep.{namespace_step, shutdown_step, touched
 use Rattle.vfs_model.specs.OpenStep.{make_file, open_at, open_refusals}
 use Rattle.vfs_model.specs.ReferenceSteps.{give_up_step, map_step}
 use Rattle.vfs_model.specs.RenameStep.{move_at, move_refusals, moved, rename_at, rename_refusals, with_moved}
-use Rattle.vfs_model.specs.UmountSteps.{empty_mount, is_busy, mkfs_step, remove_all, remove_mount, umount_at}
+use Rattle.vfs_model.specs.UmountSteps.{come_to_rest, empty_mount, is_busy, mkfs_step, remove_all, remove_mount, umount_at}
 use Rattle.vfs_model.specs.Homes.{opening_world}
 use Rattle.vfs_model.specs.World.{fits_step, world_step}
 
@@ -86,7 +86,7 @@ no errno = reply.Refused errno
 
 -- what an example computes with: a theorem unfolds it by the line `unfolding steps`
 unfoldable pub steps : Unit {0}
-unfolding may_ask evict_last touch write_back reclaim truncate row_run stopped_run bind_row free_row free_if_unused file_step fits_file file_refusals moved_count holder_lines io_totals covering_mount node_at walk_refusal has_mount_below with_node mount_refusals add_mount mount_at mkdir_refusals without_node rmdir_refusals unlink_refusals folder_refusals opening_namespace shutdown_step namespace_step touched_rows open_refusals make_file open_at give_up_step map_step moved with_moved rename_refusals move_refusals move_at rename_at is_busy empty_mount remove_mount umount_at remove_all mkfs_step opening_world world_step fits_step
+unfolding may_ask evict_last touch write_back reclaim truncate row_run stopped_run bind_row free_row free_if_unused file_step fits_file file_refusals moved_count holder_lines io_totals covering_mount node_at walk_refusal has_mount_below with_node mount_refusals add_mount mount_at mkdir_refusals without_node rmdir_refusals unlink_refusals folder_refusals opening_namespace shutdown_step namespace_step touched_rows open_refusals make_file open_at give_up_step map_step moved with_moved rename_refusals move_refusals move_at rename_at is_busy empty_mount remove_mount umount_at come_to_rest remove_all mkfs_step opening_world world_step fits_step
 steps = tt
 
 abbrev pub at_path : Path → ℕ → HolderLine

@@ -51,6 +51,8 @@ pub mod RefusedSteps
 pub mod RenameLaws
 pub mod ReplyTaking
 pub mod RowChanges
+pub mod RestExamples
+pub mod Rests
 pub mod RowShapes
 pub mod ScheduleExactness
 pub mod ScheduleExamples

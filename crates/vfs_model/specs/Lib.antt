@@ -51,6 +51,7 @@ pub mod PageList
 pub mod PlainName
 pub mod ReferenceSteps
 pub mod RenameStep
+pub mod RestLaws
 pub mod Rom
 pub mod RowChange
 pub mod RowShape

@@ -1,5 +1,5 @@
 -- Unmounting, formatting, and the end of all mounts.
-use Rattle.std.specs.Prelude.{ℕ, ◌==◌, Bool, true, false, not, ◌||◌, Option, Some, None, List, [], length, map, filter, fold, find, replicate, reverse, Result}
+use Rattle.std.specs.Prelude.{ℕ, ◌==◌, Bool, true, false, not, ◌&&◌, ◌||◌, is_some, Option, Some, None, List, [], length, map, filter, fold, find, replicate, reverse, Result}
 use Rattle.std.specs.List.{list_any, enumerate_from}
 use Rattle.vfs_base.specs.Path.{Path}
 use Rattle.vfs_base.specs.declared.errno.Errno.{Errno}
@@ -12,7 +12,7 @@ use Rattle.vfs_base.specs.declared.reply.Reply.TheVariants as reply
 use Rattle.std.specs.Prelude.{slice_set}
 use Rattle.vfs_model.specs.Chain.{◌>>=◌, ◌>>◌, refuse◌when◌, wanted}
 use Rattle.vfs_model.specs.Content.{is_mounted}
-use Rattle.vfs_model.specs.FileLife.{Rows, backing_of, end_of_unmounted, free_row, volume_at, volume_named, with_kept}
+use Rattle.vfs_model.specs.FileLife.{Rows, backing_of, end_of_dropped, end_of_unmounted, free_row, is_linked, volume_at, volume_named, with_kept}
 use Rattle.vfs_model.specs.Lookup.{asked_path, covering_mount, has_mount_below, with_tree}
 use Rattle.vfs_model.specs.NameSteps.{done}
 use Rattle.vfs_model.specs.Namespace.{all_mounts, life_at, same_bytes, same_path, tree_of}
@@ -96,9 +96,21 @@ umount_step n k text = do
   path ← asked_path n k text
   umount_at n path
 
--- all mounts but `/` go in reverse order, and `/` loses all its nodes
+-- no reference is left, and each session is in `/`
+abbrev pub unreferred : Namespace → Namespace
+unreferred n = record n { references = map (λ reference. None) n.references; working_directories = map (λ folder. []) n.working_directories }
+
+-- the rows of the files that stand at no path, in their order
+abbrev pub unlinked_rows : Namespace → List ℕ
+unlinked_rows n = map (λ row. row.0) (filter (λ row. is_some row.1 && not (is_linked n row.0)) (enumerate_from 1 n.live_files))
+
+-- the references that are left go, and each session into `/`; a file that then has no name is freed, by row
+unfoldable pub come_to_rest : Namespace → Rows
+come_to_rest n = fold (free_row end_of_dropped) (record { next = unreferred n; changes = [] }) (unlinked_rows n)
+
+-- nothing is in use any more; then all mounts but `/` go in reverse order, and `/` loses all its nodes
 unfoldable pub remove_all : Namespace → Rows
-remove_all n = empty_mount (fold remove_mount (record { next = n; changes = [] }) (reverse n.mounts)) n.root
+remove_all n = empty_mount (fold remove_mount (come_to_rest n) (reverse n.mounts)) n.root
 
 -- a volume is formatted: no names, and all cells spare
 abbrev pub format_volume : Namespace → ℕ → Namespace

@@ -11,6 +11,7 @@ ghost use Rattle.vfs_model.specs.Laws.{RefusedStepChangesNothing, WorkerChangesN
 ghost use Rattle.vfs_model.specs.FileLaws.{StepChangesOneFile, WriteMovesItsPiece, WrittenIsRead};
 ghost use Rattle.vfs_model.specs.PageList.{WordsTellPages};
 ghost use Rattle.vfs_model.specs.TextLaws.{ShownBytesTellBytes, BadLineNeedsNoLaterByte};
+ghost use Rattle.vfs_model.specs.RestLaws.{RestStaysSame, ShutdownLeavesRest};
 ghost use Rattle.vfs_model.specs.RowShape.{RefusalsNeedNoBytes};
 ghost use Rattle.vfs_model.specs.Sizes.{StepKeepsSizes, MarkedStepKeepsSizes, OpeningIsSized, TellsShortFolders};
 ghost use Rattle.vfs_model.specs.Tally.{AskedStepsLeadOn};
@@ -274,4 +275,14 @@ pub fn shown_bytes_tell_bytes()
 /// The first bad line of an input or of a script depends on no byte behind the lines that were read whole.
 pub fn bad_line_needs_no_later_byte()
     ensures { BadLineNeedsNoLaterByte }
+{}
+
+/// After a Shutdown that memory allows, no reference is left and each session is in `/`, whatever was in use before.
+pub fn shutdown_leaves_rest()
+    ensures { ShutdownLeavesRest }
+{}
+
+/// Where nothing is in use, the end has nothing to bring to rest: it unmounts, and frees nothing before.
+pub fn rest_stays_same()
+    ensures { RestStaysSame }
 {}

@@ -147,7 +147,7 @@ ended-same m backing.Memory = (refl, refl, refl, refl, refl)
 ended-same m (backing.Cell v c) = (refl, refl, refl, refl, refl)
 ended-same m (backing.Device device) = (refl, refl, refl, refl, refl)
 
-used-left : (m : Namespace) (row other : ℕ) (rows : List ℕ) → row - 1 < length m.live_files → 0 < row → 0 < other → (other - 1 ≡ row - 1) ⊎ (other - 1 ≢ row - 1) →
+pub used-left : (m : Namespace) (row other : ℕ) (rows : List ℕ) → row - 1 < length m.live_files → 0 < row → 0 < other → (other - 1 ≡ row - 1) ⊎ (other - 1 ≢ row - 1) →
     ((at : ℕ) → 0 < at → is_some (life_at m at) ≡ true → IsUsed (InRows (row ∷ rows)) m at) →
     is_some (slice_index_or (slice_set m.live_files (row - 1) None) (other - 1) None) ≡ true → IsUsed (InRows rows) (without_life m row) other
 used-left m row other rows within l k (inl e) used h =

@@ -34,7 +34,7 @@ alive-freed n row id kind number other live = record {
 rows-differ : (row other : ℕ) → 0 < row → 0 < other → other ≢ row → other - 1 ≢ row - 1
 rows-differ row other l m h = λ e. h (omega (arith, e))
 
-live-freed : (n : Namespace) (row : ℕ) → 0 < row → (Linked n row → Unit {0} → ⊥) → (Held n row → Unit {0} → ⊥) → ReferencesLive n → ReferencesLive (without_life n row)
+pub live-freed : (n : Namespace) (row : ℕ) → 0 < row → (Linked n row → Unit {0} → ⊥) → (Held n row → Unit {0} → ⊥) → ReferencesLive n → ReferencesLive (without_life n row)
 live-freed n row l unlinked unheld live = record {
   linked = λ number path id kind h.
       let alive = live.linked number path id kind h in
@@ -161,12 +161,12 @@ but-dropped m backing.Memory boxes = boxes
 but-dropped m (backing.Cell volume cell) boxes = but-cell true m volume cell boxes
 but-dropped m (backing.Device device) boxes = but-device false m device boxes
 
-live_files-dropped : (m : Namespace) (b : Backing) → LivesFit m → LivesFit (after_end m (end_of_dropped b))
+pub live_files-dropped : (m : Namespace) (b : Backing) → LivesFit m → LivesFit (after_end m (end_of_dropped b))
 live_files-dropped m backing.Memory fit = fit
 live_files-dropped m (backing.Cell volume cell) fit = live_files-cell true m volume cell fit
 live_files-dropped m (backing.Device device) fit = fit
 
-boxes-dropped : (n : Namespace) (row : ℕ) → row - 1 < length n.live_files → BoxesPlaced n →
+pub boxes-dropped : (n : Namespace) (row : ℕ) → row - 1 < length n.live_files → BoxesPlaced n →
     BoxesPlaced (after_end (without_life n row) (end_of_dropped (backing_of (life_at n row))))
 boxes-dropped n row l boxes =
     boxes-all _
@@ -174,7 +174,7 @@ boxes-dropped n row l boxes =
     (devices-dropped n row l boxes.devices (backing_of (life_at n row)) refl)
     (but-dropped (without_life n row) (backing_of (life_at n row)) (but-life n row None n.generations refl (boxes-but n boxes)))
 
-rest-dropped : (Excused : ℕ → Type 0) (m : Namespace) (b : Backing) → Rest Excused m → Rest Excused (after_end m (end_of_dropped b))
+pub rest-dropped : (Excused : ℕ → Type 0) (m : Namespace) (b : Backing) → Rest Excused m → Rest Excused (after_end m (end_of_dropped b))
 rest-dropped Excused m backing.Memory s = s
 rest-dropped Excused m (backing.Cell volume cell) s = rest-beside Excused m (with_cell true m volume cell).volumes m.devices s
 rest-dropped Excused m (backing.Device device) s = rest-beside Excused m m.volumes (with_device false m device).devices s

@@ -69,13 +69,13 @@ live-row n id kind number e live = (live.row, subst (λ x. id.row - 1 < x) e (wi
     within None h x = absurd x
     within (Some life) h x = some-within n.live_files (id.row - 1) life h
 
-end-pages : (m : Namespace) (e : End) (volume cell : ℕ) → cell_capacity (after_end m e) volume cell ≡ cell_capacity m volume cell
+pub end-pages : (m : Namespace) (e : End) (volume cell : ℕ) → cell_capacity (after_end m e) volume cell ≡ cell_capacity m volume cell
 end-pages m end.Nothing volume cell = refl
 end-pages m (end.Spare v c) volume cell = ap (λ pages. 4096 * slice_index_or pages cell 0) (cell-pages true m v c volume)
 end-pages m (end.Kept v c) volume cell = refl
 end-pages m (end.Device device) volume cell = refl
 
-dropped-ends : (b : Backing) → Ends b (end_of_dropped b)
+pub dropped-ends : (b : Backing) → Ends b (end_of_dropped b)
 dropped-ends backing.Memory = tt
 dropped-ends (backing.Cell volume cell) = tt
 dropped-ends (backing.Device device) = tt

@@ -38,6 +38,7 @@ pub mod MountRemoval
 pub mod UmountKeeping
 pub mod MkfsKeeping
 pub mod RootRemoval
+pub mod Resting
 pub mod ShutdownKeeping
 pub mod StepKeeping
 pub mod WorldSteps

@@ -83,7 +83,7 @@ chdir-kept n k text s =
     then-kept n (folder_refusals n path) _ (λ h.
     names-kept n (with_folder_of n k path) (folder-stands Nothing n k path (ap is_dir_node (folder-is n path h)) (asked-short n k text path e) s) refl refl refl))
 
-root-folder : (n : Namespace) → FoldersStand n → node_at n [] ≡ Some node.Dir
+pub root-folder : (n : Namespace) → FoldersStand n → node_at n [] ≡ Some node.Dir
 root-folder n f =
     let empty : rest_of n [] ≡ [] = no-rest (covering_mount n []).point (splits n [] f) in
     at-rest n [] ∙ ap (node_in (tree_at n [])) empty

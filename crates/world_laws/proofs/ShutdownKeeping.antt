@@ -3,20 +3,19 @@ use Rattle.std.proofs.Common.{◌≡◌, ◌≢◌, ℕ, zero, suc, ◌+◌, ◌
 use Rattle.std.proofs.lemmas.List.{get_or_past, length-append, reverse-append, reverse-reverse}
 use Rattle.std.proofs.lemmas.Bool.{ltb-true}
 use Rattle.std.proofs.lemmas.List.Elements.{filter-append}
-use Rattle.std.specs.List.{list_all, list_any}
+use Rattle.std.specs.List.{list_any}
 use Rattle.vfs_base.specs.Path.{Path}
 use Rattle.vfs_base.specs.declared.ids.FileId.{FileId}
 use Rattle.vfs_base.specs.declared.kinds.Kind.{Kind}
 use Rattle.vfs_model.specs.Consistency.{IsLive}
 use Rattle.vfs_base.specs.declared.entry.Mark.{Mark}
 use Rattle.vfs_base.specs.declared.entry.Mark.TheVariants as mark
-use Rattle.vfs_model.specs.Asking.{is_at_rest}
 use Rattle.vfs_model.specs.FileLife.{Rows}
 use Rattle.vfs_model.specs.Homes.{change_row}
 use Rattle.vfs_model.specs.Lookup.{covering_mount, has_mount_below, is_below, is_prefix, node_at}
 use Rattle.vfs_model.specs.Namespace.{all_mounts, folder_of, same_path}
 use Rattle.vfs_model.specs.NamespaceStep.{shutdown_step}
-use Rattle.vfs_model.specs.UmountSteps.{refers_to_mount, remove_all, remove_mount}
+use Rattle.vfs_model.specs.UmountSteps.{come_to_rest, refers_to_mount, remove_all, remove_mount}
 use Rattle.vfs_model.specs.declared.namespace.Mount.{Mount}
 use Rattle.vfs_model.specs.declared.namespace.Namespace.{Namespace}
 use Rattle.vfs_model.specs.declared.namespace.RowChange.{RowChange}
@@ -24,7 +23,8 @@ use Rattle.world_laws.proofs.Agreeing.{agrees-beside}
 use Rattle.world_laws.proofs.Keeping.{Keeps, same-kept}
 use Rattle.world_laws.proofs.Lists.{any-place, below-or-past, number-itself, other-number, true-or-false}
 use Rattle.world_laws.proofs.MountRemoval.{Removed, removal}
-use Rattle.world_laws.proofs.Passing.{and-first, and-second}
+use Rattle.world_laws.proofs.Passing.{and-second}
+use Rattle.world_laws.proofs.Resting.{rested}
 use Rattle.world_laws.proofs.RootRemoval.{AtRest, Ended, root-ended}
 use Rattle.world_laws.proofs.Standing.{Nothing, Stands}
 use Rattle.world_laws.proofs.UmountKeeping.{root-covers}
@@ -156,43 +156,19 @@ all-gone (last ∷ left) m changes s rest e =
       rest = later.rest;
     }
 
-removed-all : (n : Namespace) → Stands Nothing n → AtRest n → Ended n [] (remove_all n)
+removed-all : (n : Namespace) → Stands Nothing n → Ended n [] (remove_all n)
 unfolding remove_all
-removed-all n s rest =
-    let all = all-gone (reverse n.mounts) n [] s rest (sym (reverse-reverse n.mounts)) in
-    let out = fold remove_mount (record { next = n; changes = [] }) (reverse n.mounts) in
-    let last = root-ended out.next n.root out.changes all.mounts (sym all.root) all.ended.stands all.rest in
+removed-all n s =
+    let first = rested n s in
+    let rows = come_to_rest n in
+    let all = all-gone (reverse n.mounts) rows.next rows.changes first.ended.stands first.rest (first.mounts ∙ sym (reverse-reverse n.mounts)) in
+    let out = fold remove_mount rows (reverse n.mounts) in
+    let last = root-ended out.next n.root out.changes all.mounts (sym (all.root ∙ first.root)) all.ended.stands all.rest in
     record {
       stands = last.stands;
-      pages = λ volume cell. last.pages volume cell ∙ all.ended.pages volume cell;
-      files = λ v a. last.files v (all.ended.files v a);
+      pages = λ volume cell. last.pages volume cell ∙ all.ended.pages volume cell ∙ first.ended.pages volume cell;
+      files = λ v a. last.files v (all.ended.files v (first.ended.files v a));
     }
-
--- what is at rest
-all-places : {X : Type 0} (p : X → Bool) (xs : List X) (place : ℕ) (d : X) → list_all p xs ≡ true → place < length xs → p (slice_index_or xs place d) ≡ true
-all-places p [] place d h l = absurd (omega (arith, l))
-all-places p (x ∷ xs) zero d h l = and-first (p x) (list_all p xs) h
-all-places p (x ∷ xs) (suc place) d h l = all-places p xs place d (and-second (p x) (list_all p xs) h) (omega (arith, l))
-
-none-of : {X : Type 0} (found : Option X) → is_none found ≡ true → found ≡ None
-none-of None h = refl
-none-of (Some x) h = absurd (cc)
-
-empty-path : (p : Path) → same_path [] p ≡ true → p ≡ []
-empty-path [] h = refl
-empty-path (x ∷ p) h = absurd (cc)
-
-pub at-rest : (n : Namespace) → is_at_rest n ≡ true → AtRest n
-at-rest n h = record {
-  unheld = λ place. elim (below-or-past place (length n.references)) [
-    | inl l ↦ none-of (slice_index_or n.references place None) (all-places is_none n.references place None (and-first (list_all is_none n.references) _ h) l)
-    | inr l ↦ get_or_past n.references place None l
-  ];
-  home = λ k. elim (below-or-past (k - 1) (length n.working_directories)) [
-    | inl l ↦ empty-path (folder_of n k) (all-places (same_path []) n.working_directories (k - 1) [] (and-second (list_all is_none n.references) _ h) l)
-    | inr l ↦ get_or_past n.working_directories (k - 1) [] l
-  ];
-}
 
 -- a namespace remembers a fault of the end
 stopped-live : (n : Namespace) (id : FileId) (kind : Kind) (number : ℕ) → IsLive n id kind number → IsLive (record n { is_stopped = true }) id kind number
@@ -241,12 +217,12 @@ stopped-stands n s = record {
   };
 }
 
-pub shutdown-kept : (n : Namespace) (m : Mark) → Stands Nothing n → is_at_rest n ≡ true → Keeps n (shutdown_step n m).next (shutdown_step n m).changes
+pub shutdown-kept : (n : Namespace) (m : Mark) → Stands Nothing n → Keeps n (shutdown_step n m).next (shutdown_step n m).changes
 unfolding shutdown_step
-shutdown-kept n (mark.NoMem moved) s h = same-kept n s
-shutdown-kept n mark.Clear s h = let all = removed-all n s (at-rest n h) in record { stands = all.stands; pages = all.pages; files = λ v a. all.files v a }
-shutdown-kept n (mark.Fault moved) s h =
-    let all = removed-all n s (at-rest n h) in
+shutdown-kept n (mark.NoMem moved) s = same-kept n s
+shutdown-kept n mark.Clear s = let all = removed-all n s in record { stands = all.stands; pages = all.pages; files = λ v a. all.files v a }
+shutdown-kept n (mark.Fault moved) s =
+    let all = removed-all n s in
     record {
       stands = stopped-stands (remove_all n).next all.stands;
       pages = all.pages;

@@ -78,7 +78,7 @@ file-of-row : (row : ℕ) (found : NodeKind) → is_file_of_row row found ≡ tr
 file-of-row row node.Dir h = absurd (cc)
 file-of-row row (node.File id kind) h = (id, kind, refl, same-number id.row row h)
 
-linked-of : (n : Namespace) → ((number : ℕ) → IsClosedTree is_dir_node (tree_of n number)) → (row : ℕ) → is_linked n row ≡ true → Linked n row
+pub linked-of : (n : Namespace) → ((number : ℕ) → IsClosedTree is_dir_node (tree_of n number)) → (row : ℕ) → is_linked n row ≡ true → Linked n row
 linked-of n trees row h =
     let found = any-place (has_row row) n.trees [] h in
     let there = any-node (is_file_of_row row) (tree_of n found.place) (trees found.place).sorted found.holds in

@@ -5,7 +5,6 @@ use Rattle.vfs_base.specs.declared.entry.Mark.TheVariants as mark
 use Rattle.vfs_base.specs.declared.errno.Errno.{Errno}
 use Rattle.vfs_base.specs.declared.step.Step.{Step}
 use Rattle.vfs_base.specs.declared.step.Step.TheVariants as step
-use Rattle.vfs_model.specs.Asking.{is_at_rest}
 use Rattle.vfs_model.specs.NamespaceOutcome.{NamespaceOutcome, settled}
 use Rattle.vfs_model.specs.NamespaceStep.{is_shutdown, namespace_answer, namespace_step, under_mark}
 use Rattle.vfs_model.specs.declared.namespace.Namespace.{Namespace}
@@ -62,13 +61,12 @@ marked-kept n answer mark.Clear s kept = settled-kept n answer s kept
 marked-kept n answer (mark.Fault moved) s kept = same-kept n s
 marked-kept n answer (mark.NoMem moved) s kept = same-kept n s
 
--- a session asks it, or everything is at rest and it is the end
-abbrev pub Asks : Namespace → ℕ → Step → Type 0
-Asks n k asked = ((0 < k) × (is_shutdown asked ≡ false)) ⊎ ((is_shutdown asked ≡ true) × (is_at_rest n ≡ true))
+-- a session takes it, or it is the end
+abbrev pub Takes : ℕ → Step → Type 0
+Takes k asked = ((0 < k) × (is_shutdown asked ≡ false)) ⊎ (is_shutdown asked ≡ true)
 
-pub namespace-kept : (n : Namespace) (k : ℕ) (asked : Step) (m : Mark) → Asks n k asked → Stands Nothing n → Keeps n (namespace_step n k asked m).next (namespace_step n k asked m).changes
+pub namespace-kept : (n : Namespace) (k : ℕ) (asked : Step) (m : Mark) → Takes k asked → Stands Nothing n → Keeps n (namespace_step n k asked m).next (namespace_step n k asked m).changes
 unfolding namespace_step
-namespace-kept n k step.Shutdown m (inl asks) s = absurd (cc)
-namespace-kept n k step.Shutdown m (inr rest) s = shutdown-kept n m s rest.1
-namespace-kept n k asked m (inl asks) s = marked-kept n (namespace_answer n k asked) m s (answer-kept n k asked asks.0 s)
-namespace-kept n k asked m (inr rest) s = absurd (cc)
+namespace-kept n k step.Shutdown m takes s = shutdown-kept n m s
+namespace-kept n k asked m (inl takes) s = marked-kept n (namespace_answer n k asked) m s (answer-kept n k asked takes.0 s)
+namespace-kept n k asked m (inr ends) s = absurd (cc)

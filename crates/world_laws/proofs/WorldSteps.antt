@@ -1,42 +1,36 @@
 -- Every step, and every list of steps, keeps the world consistent.
-use Rattle.std.proofs.Common.{◌≡◌, ℕ, zero, suc, ◌≤◌, Bool, true, false, not, Option, Some, None, is_none, List, [], ◌∷◌, fold, length, map, slice_index_or, inl, inr, if◌then◌else◌, refl, sym, subst, arith}
+use Rattle.std.proofs.Common.{◌≡◌, ℕ, zero, suc, ◌≤◌, Bool, true, false, ◌||◌, Option, Some, None, is_some, List, [], ◌∷◌, fold, length, map, slice_index_or, inl, inr, if◌then◌else◌, refl, sym, ap, subst, ◌∙◌, arith}
 use Rattle.vfs_base.specs.declared.entry.Mark.{Mark}
 use Rattle.vfs_base.specs.declared.entry.Who.{Who}
 use Rattle.vfs_base.specs.declared.entry.Who.TheVariants as who
-use Rattle.vfs_base.specs.declared.ids.FileId.{FileId}
 use Rattle.vfs_base.specs.declared.reply.Reply.{Reply}
 use Rattle.vfs_base.specs.declared.step.Step.{Step}
 use Rattle.vfs_base.specs.declared.step.Step.TheVariants as step
-use Rattle.vfs_model.specs.Asking.{Asked, MayAsk, may_ask, may_ask_file, run_steps}
+use Rattle.vfs_model.proofs.Rests.{changed-namespace}
+use Rattle.vfs_model.specs.Asking.{Asked, MayAsk, may_ask, run_steps}
 use Rattle.vfs_model.specs.Boxes.{IsConsistent}
 use Rattle.vfs_model.specs.Consistency.{agrees}
 use Rattle.vfs_model.specs.FileLife.{backing_of, volume_named}
-use Rattle.vfs_model.specs.FileStep.{step_file}
 use Rattle.vfs_model.specs.Homes.{cell_bytes, change_row, file_at, with_empty_cells}
 use Rattle.vfs_model.specs.Namespace.{generation_at, life_at}
 use Rattle.vfs_model.specs.NamespaceOutcome.{NamespaceOutcome}
 use Rattle.vfs_model.specs.NamespaceStep.{is_shutdown, namespace_step}
+use Rattle.vfs_model.specs.StepForms.{MayTake}
 use Rattle.vfs_model.specs.World.{FitsStep, after_format, fits_on, fits_step, is_done, namespace_part, session_of, step_on, step_row, world_step}
 use Rattle.vfs_model.specs.declared.namespace.Backing.TheVariants as backing
 use Rattle.vfs_model.specs.declared.namespace.Namespace.{Namespace}
 use Rattle.vfs_model.specs.declared.namespace.RowChange.{RowChange}
-use Rattle.vfs_model.specs.declared.namespace.RowChange.TheVariants as change
 use Rattle.vfs_model.specs.declared.world.Homes.{Homes}
 use Rattle.vfs_model.specs.declared.world.WorldState.{WorldState}
 use Rattle.world_laws.proofs.Agreeing.{Agrees}
 use Rattle.world_laws.proofs.Keeping.{Keeps}
-use Rattle.world_laws.proofs.Passing.{and-first, and-second}
+use Rattle.world_laws.proofs.Lists.{or-second, true-or-false}
+use Rattle.world_laws.proofs.Passing.{and-first}
 use Rattle.world_laws.proofs.Standing.{Nothing, Stands, consistent-of, stands-of}
-use Rattle.world_laws.proofs.StepKeeping.{Asks, namespace-kept}
+use Rattle.world_laws.proofs.StepKeeping.{Takes, namespace-kept}
 use Rattle.world_laws.proofs.Taking.{set-at}
 use Rattle.world_laws.proofs.WorldKeeping.{file-consistent}
 use Rattle.world_laws.specs.Keeping.{HasNumber, MayRun}
-
--- changes of rows leave the namespace as it was
-changed-namespace : (changes : List RowChange) (w : WorldState) → (fold change_row w changes).namespace ≡ w.namespace
-changed-namespace [] w = refl
-changed-namespace (change.Bind id begins ∷ changes) w = changed-namespace changes (change_row w (change.Bind id begins))
-changed-namespace (change.Free id ending ∷ changes) w = changed-namespace changes (change_row w (change.Free id ending))
 
 -- what a step keeps, and the changes of rows, leave the world consistent
 changed-consistent : (w : WorldState) (next : Namespace) (changes : List RowChange) → IsConsistent w → Keeps w.namespace next changes → IsConsistent (fold change_row (record w { namespace = next }) changes)
@@ -92,45 +86,30 @@ part-consistent : (w : WorldState) (outcome : NamespaceOutcome) (asked : Step) �
 part-consistent w outcome asked c kept =
     formatted-consistent (fold change_row (record w { namespace = outcome.next }) outcome.changes) asked outcome.reply (changed-consistent w outcome.next outcome.changes c kept)
 
--- a step of a file names a row
-no-file : (asked : Step) (id : FileId) → step_file asked ≡ Some id → step_row asked ≡ None → ⊥
-no-file (step.Flush row) id e none = absurd (cc)
-no-file (step.Reclaim row) id e none = absurd (cc)
-no-file (step.Size file) id e none = absurd (cc)
-no-file (step.Read file off len) id e none = absurd (cc)
-no-file (step.Write file off piece) id e none = absurd (cc)
-no-file (step.Append file piece) id e none = absurd (cc)
-no-file (step.Trunc file len) id e none = absurd (cc)
-no-file (step.Sync file) id e none = absurd (cc)
-no-file (step.Load file off len) id e none = absurd (cc)
-no-file (step.Store file off piece) id e none = absurd (cc)
-no-file asked id e none = absurd (cc)
-
--- who may ask a step of no file
-asks : (w : WorldState) (asker : Who) (asked : Step) → HasNumber asker → may_ask w asker asked ≡ true → step_row asked ≡ None → Asks w.namespace (session_of asker) asked
+-- whoever may ask a step may take it
+pub asked-taken : (w : WorldState) (asker : Who) (asked : Step) → MayAsk w asker asked → MayTake asker asked
 unfolding may_ask
-asks w (who.Session k) asked numbered may none = inl (numbered, by (step_file asked) refl may)
-  where
-    opposite : (b : Bool) → not b ≡ true → b ≡ false
-    opposite true h = absurd (cc)
-    opposite false h = refl
+asked-taken w (who.Session k) asked may = tt
+asked-taken w (who.Flush row) (step.Flush other) may = refl
+asked-taken w (who.Flush row) asked may = absurd (cc)
+asked-taken w (who.Reclaim row) (step.Reclaim other) may = refl
+asked-taken w (who.Reclaim row) asked may = absurd (cc)
+asked-taken w who.End asked may = or-second (is_some (step_row asked)) (is_shutdown asked) (and-first (is_shutdown asked) _ may)
 
-    by : (found : Option FileId) → step_file asked ≡ found → may_ask_file w.namespace k asked found ≡ true → is_shutdown asked ≡ false
-    by None e h = opposite (is_shutdown asked) (and-second (is_none (step_row asked)) _ h)
-    by (Some id) e h = absurd (no-file asked id e none)
-asks w (who.Flush row) (step.Flush other) numbered may none = absurd (cc)
-asks w (who.Flush row) asked numbered may none = absurd (cc)
-asks w (who.Reclaim row) (step.Reclaim other) numbered may none = absurd (cc)
-asks w (who.Reclaim row) asked numbered may none = absurd (cc)
-asks w who.End asked numbered may none = inr (and-first (is_shutdown asked) _ may, and-second (is_shutdown asked) _ may)
+-- who may take a step of no file
+takes : (asker : Who) (asked : Step) → HasNumber asker → MayTake asker asked → step_row asked ≡ None → Takes (session_of asker) asked
+takes (who.Session k) asked numbered may none = elim (true-or-false (is_shutdown asked)) [ inl e ↦ inr e | inr e ↦ inl (numbered, e) ]
+takes (who.Flush row) asked numbered may none = inr (sym (ap (λ found. is_some found || is_shutdown asked) none) ∙ may)
+takes (who.Reclaim row) asked numbered may none = inr (sym (ap (λ found. is_some found || is_shutdown asked) none) ∙ may)
+takes who.End asked numbered may none = inr (sym (ap (λ found. is_some found || is_shutdown asked) none) ∙ may)
 
-on-consistent : (w : WorldState) (k : ℕ) (asked : Step) (m : Mark) (found : Option ℕ) → IsConsistent w → fits_on w k asked m found ≡ true → (found ≡ None → Asks w.namespace k asked) → IsConsistent (step_on w k asked m found).next
+on-consistent : (w : WorldState) (k : ℕ) (asked : Step) (m : Mark) (found : Option ℕ) → IsConsistent w → fits_on w k asked m found ≡ true → (found ≡ None → Takes k asked) → IsConsistent (step_on w k asked m found).next
 on-consistent w k asked m None c fits may = part-consistent w (namespace_step w.namespace k asked m) asked c (namespace-kept w.namespace k asked m (may refl) (stands-of w c))
 on-consistent w k asked m (Some row) c fits may = file-consistent w row asked m c fits
 
-pub step-consistent : (w : WorldState) (asker : Who) (asked : Step) (m : Mark) → IsConsistent w → HasNumber asker → MayAsk w asker asked → FitsStep w asker asked m → IsConsistent (world_step w asker asked m).next
+pub step-consistent : (w : WorldState) (asker : Who) (asked : Step) (m : Mark) → IsConsistent w → HasNumber asker → MayTake asker asked → FitsStep w asker asked m → IsConsistent (world_step w asker asked m).next
 unfolding world_step fits_step
-step-consistent w asker asked m c numbered may fits = on-consistent w (session_of asker) asked m (step_row asked) c fits (asks w asker asked numbered may)
+step-consistent w asker asked m c numbered may fits = on-consistent w (session_of asker) asked m (step_row asked) c fits (takes asker asked numbered may)
 
 pub run-consistent : (run : List Asked) (w : WorldState) → IsConsistent w → MayRun w run → IsConsistent (run_steps w run).next
 run-consistent [] w c may = c

@@ -5,7 +5,7 @@
 #![tactic(auto)]
 
 ghost use Rattle.world_laws.specs.Mounted.{MountedRomShowsItsFiles};
-ghost use Rattle.world_laws.specs.Keeping.{FileStepsKeepConsistency, OpeningIsConsistent, RunsKeepConsistency, StepsKeepConsistency};
+ghost use Rattle.world_laws.specs.Keeping.{AskedMayBeTaken, FileStepsKeepConsistency, OpeningIsConsistent, RunsKeepConsistency, StepsKeepConsistency};
 
 /// The world at the start of every script is consistent, whatever devices there are: the roms of a script are trees.
 pub fn opening_is_consistent()
@@ -17,12 +17,17 @@ pub fn file_steps_keep_consistency()
     ensures { FileStepsKeepConsistency }
 {}
 
-/// Every step that may be asked, with a mark that fits, keeps the world consistent.
+/// Whoever may ask a step may take it.
+pub fn asked_may_be_taken()
+    ensures { AskedMayBeTaken }
+{}
+
+/// Every step that its asker may take, with a mark that fits, keeps the world consistent: also a Shutdown while something is in use.
 pub fn steps_keep_consistency()
     ensures { StepsKeepConsistency }
 {}
 
-/// Steps that may be asked one after the other keep the world consistent.
+/// Steps that may be taken one after the other keep the world consistent.
 pub fn runs_keep_consistency()
     ensures { RunsKeepConsistency }
 {}

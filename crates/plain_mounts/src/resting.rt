@@ -1,0 +1,105 @@
+//! The end of all use: no reference is left, each session is in `/`, and files without a name go.
+
+ghost use Rattle.std.specs.Prelude.{◌≡◌, [], ◌+◌, ◌<◌, ◌≤◌, ◌&&◌, not, is_some, length, map, fold, drop, vec_len, vec_capacity, if◌then◌else◌};
+ghost use Rattle.vfs_model.specs.FileLife.{end_of_dropped, free_row, is_linked};
+ghost use Rattle.vfs_model.specs.Namespace.{life_at};
+ghost use Rattle.vfs_model.specs.UmountSteps.{come_to_rest, unlinked_rows};
+ghost use Rattle.plain_mounts.specs.Leaving.{live_count, rows_so_far, TreesShrink};
+
+use plain_files::flat;
+use plain_nodes::changes::Change;
+use plain_nodes::rows::{end_of_dropped, free_row, is_linked};
+use std::alloc::Global;
+use vfs_base::{List, Path, ROWS, RowId};
+use vfs_model::{Namespace, Reference};
+
+/// The references that are left go, and each session into `/`; a file that then has no name is freed, by
+/// row. The changes that are told have room for those of the rows.
+#[tactic(auto, unfolding(vfs_model::specs::UmountSteps::come_to_rest))]
+pub fn come_to_rest(namespace: &mut Namespace, alloc: Global, changes: &mut Vec<Change>)
+    requires live_files { length namespace.old.live_files ≡ 1024 }
+    requires empty { changes.old.items ≡ [] }
+    requires room { vec_len changes.old + live_count namespace.old ≤ vec_capacity changes.old }
+    ensures next { come_to_rest namespace.old ≡ rows_so_far namespace.new changes.new.items }
+    ensures live_files { length namespace.new.live_files ≡ 1024 }
+    ensures trees { TreesShrink namespace.old namespace.new }
+    ensures room { vec_len changes.new + live_count namespace.new ≤ vec_capacity changes.new }
+{
+    end_references(&mut namespace.references, alloc);
+    leave_folders(&mut namespace.working_directories, alloc);
+    free_unlinked(namespace, alloc, changes);
+}
+
+fn end_references(references: &mut List<Option<Reference>>, alloc: Global)
+    ensures { references.new ≡ map (λ reference. None) references.old }
+{
+    for place in 0..references.len() {
+        flat::set(references, alloc, place, None);
+    }
+}
+
+fn leave_folders(working_directories: &mut List<Path>, alloc: Global)
+    ensures { working_directories.new ≡ map (λ folder. []) working_directories.old }
+{
+    for place in 0..working_directories.len() {
+        flat::set(working_directories, alloc, place, Path::root(alloc));
+    }
+}
+
+// Frees the files that stand at no path, by row.
+fn free_unlinked(namespace: &mut Namespace, alloc: Global, changes: &mut Vec<Change>)
+    requires live_files { length namespace.old.live_files ≡ 1024 }
+    requires room { vec_len changes.old + live_count namespace.old ≤ vec_capacity changes.old }
+    ensures next { fold (free_row end_of_dropped) (rows_so_far namespace.old changes.old.items) (unlinked_rows namespace.old)
+        ≡ rows_so_far namespace.new changes.new.items }
+    ensures live_files { length namespace.new.live_files ≡ 1024 }
+    ensures trees { namespace.new.trees ≡ namespace.old.trees }
+    ensures room { vec_len changes.new + live_count namespace.new ≤ vec_capacity changes.new }
+{
+    for place in 0..ROWS {
+        free_if_unlinked(namespace, alloc, place, changes);
+    }
+}
+
+// Frees the row at this place, counted from 0, if its file stands at no path.
+#[tactic(auto, unfolding(vfs_model::specs::FileLife::free_row))]
+fn free_if_unlinked(namespace: &mut Namespace, alloc: Global, place: u16, changes: &mut Vec<Change>)
+    requires place { place < 1024 }
+    requires live_files { length namespace.old.live_files ≡ 1024 }
+    requires room { vec_len changes.old + live_count namespace.old ≤ vec_capacity changes.old }
+    ensures next { rows_so_far namespace.new changes.new.items
+        ≡ (if is_some (life_at namespace.old (place + 1)) && not (is_linked namespace.old (place + 1))
+        then free_row end_of_dropped (rows_so_far namespace.old changes.old.items) (place + 1) else rows_so_far namespace.old changes.old.items) }
+    ensures later { drop (place + 1) namespace.new.live_files ≡ drop (place + 1) namespace.old.live_files }
+    ensures live_files { length namespace.new.live_files ≡ 1024 }
+    ensures trees { namespace.new.trees ≡ namespace.old.trees }
+    ensures room { vec_len changes.new + live_count namespace.new ≤ vec_capacity changes.new }
+{
+    let Some(row) = RowId::new(place + 1) else {
+        return;
+    };
+    if !has_unlinked_file(namespace, row) {
+        return;
+    }
+    let end = end_of_dropped(namespace, row);
+    changes.push_reserved(free_row(namespace, alloc, row, end));
+}
+
+fn has_unlinked_file(namespace: &Namespace, row: RowId) -> bool
+    ensures { result ≡ (is_some (life_at namespace.now row) && not (is_linked namespace.now row)) }
+{
+    has_file(namespace, row) && !is_linked(namespace, row)
+}
+
+fn has_file(namespace: &Namespace, row: RowId) -> bool
+    ensures { result ≡ is_some (life_at namespace.now row) }
+{
+    match namespace
+        .live_files
+        .as_slice()
+        .get(row.number() as usize - 1)
+    {
+        Some(life) => life.is_some(),
+        None => false,
+    }
+}
