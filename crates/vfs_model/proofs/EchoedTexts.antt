@@ -23,7 +23,7 @@ use Rattle.vfs_model.specs.declared.shell_state.ShellState.{ShellState}
 use Rattle.vfs_model.specs.declared.world.FileState.{FileState}
 use Rattle.vfs_model.specs.declared.world.FileState.TheVariants as file
 
-appended : (byte : ℕ) (piece bytes : List ℕ) → written_at (length bytes) (byte ∷ piece) bytes ≡ bytes ++ byte ∷ piece
+pub appended : (byte : ℕ) (piece bytes : List ℕ) → written_at (length bytes) (byte ∷ piece) bytes ≡ bytes ++ byte ∷ piece
 appended byte piece bytes =
     let cut = cut_or_padded (length bytes) bytes in
     let past : length bytes ≤ length bytes + length (byte ∷ piece) = omega arith in
@@ -31,11 +31,11 @@ appended byte piece bytes =
     ∙ append-nil (cut ++ byte ∷ piece)
     ∙ ap (λ front. front ++ byte ∷ piece) (take-append_seam bytes (replicate (length bytes - length bytes) 0))
 
-second-false : (a b : Bool) → b ≡ false → (a && b) ≡ false
+pub second-false : (a b : Bool) → b ≡ false → (a && b) ≡ false
 second-false true b e = e
 second-false false b e = refl
 
-refused-never : (errno full : Errno) (a b : Bool) → a ≡ false → b ≡ false → (refuse errno when a >> refuse full when b) ≡ Ok tt
+pub refused-never : (errno full : Errno) (a b : Bool) → a ≡ false → b ≡ false → (refuse errno when a >> refuse full when b) ≡ Ok tt
 refused-never errno full true b e f = absurd (cc)
 refused-never errno full false true e f = absurd (cc)
 refused-never errno full false false e f = refl

@@ -7,6 +7,7 @@ pub mod CleanedPages
 pub mod CommandExamples
 pub mod CommandRuns
 pub mod ContentSizes
+pub mod CopiedFiles
 pub mod CopyCommandExamples
 pub mod CopyTalks
 pub mod CountedHolders

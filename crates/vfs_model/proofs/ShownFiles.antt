@@ -45,13 +45,13 @@ module _ (e : Catted) (state : ShellState) (plain : is_chr e.kind ≡ false) (sm
   unfolding file_refusals moved_count
   read-count place = ap (λ (test : Bool). if is_ok (tested test) then min PAGE_SIZE (length e.bytes - place) else 0) (same-generation e.file)
 
-  read-bytes : (place : ℕ) → (file_step here (step.Read e.file place PAGE_SIZE) mark.Clear).reply ≡ reply.Got (piece_at place)
+  pub read-bytes : (place : ℕ) → (file_step here (step.Read e.file place PAGE_SIZE) mark.Clear).reply ≡ reply.Got (piece_at place)
   unfolding file_step file_refusals
   read-bytes place =
       ap (λ (test : Bool). (clear_step here (step.Read e.file place PAGE_SIZE) (tested test)).reply) (same-generation e.file)
       ∙ ap (λ n. reply.Got (take n (drop place e.bytes))) (read-count place)
 
-  piece-length : (place : ℕ) → length (piece_at place) ≡ min PAGE_SIZE (length e.bytes - place)
+  pub piece-length : (place : ℕ) → length (piece_at place) ≡ min PAGE_SIZE (length e.bytes - place)
   piece-length place =
       let cut = length-take (min PAGE_SIZE (length e.bytes - place)) (drop place e.bytes) in
       let rest = length-drop place e.bytes in

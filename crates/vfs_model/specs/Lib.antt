@@ -12,6 +12,7 @@ pub mod Consistency
 pub mod ConsistencyLaws
 pub mod Content
 pub mod CopyCommands
+pub mod CopyLaws
 pub mod Deck
 pub mod DeckLaws
 pub mod DeckLine
