@@ -1,5 +1,5 @@
 -- Each change that a step makes is one of a row, and its file is what the step does to the row.
-use Rattle.std.proofs.Common.{◌≡◌, ℕ, ◌+◌, ◌-◌, ◌*◌, ◌<◌, ◌≤◌, ◌==◌, Bool, true, false, cond, ◌&&◌, ◌||◌, not, nat_lt, Option, Some, None, List, [], ◌∷◌, ◌++◌, length, map, fold, reverse, drop, slice_index_or, Ok, if◌then◌else◌, inl, inr, refl, sym, ap, ◌∙◌, arith}
+use Rattle.std.proofs.Common.{◌≡◌, ℕ, ◌+◌, ◌-◌, ◌*◌, ◌<◌, ◌≤◌, ◌==◌, Bool, true, false, cond, ◌&&◌, ◌||◌, not, nat_lt, Option, Some, None, List, [], ◌∷◌, ◌++◌, length, map, fold, is_some, reverse, drop, slice_index_or, Ok, if◌then◌else◌, inl, inr, refl, sym, ap, ◌∙◌, arith}
 use Rattle.std.proofs.lemmas.Bool.Decides.{leb_tells}
 use Rattle.std.proofs.lemmas.List.{get_or_past, get_or-drop, get_or-take, length-take}
 use Rattle.std.proofs.lemmas.List.Elements.{All-cons, All-head, All-nil, All-push, All-tail}
@@ -39,7 +39,7 @@ use Rattle.vfs_model.specs.ReferenceSteps.{give_up_step, in_role, is_device_kind
 use Rattle.vfs_model.specs.OpenStep.{least_free_number}
 use Rattle.vfs_model.specs.RenameStep.{move_at, move_refusals, rename_at, rename_refusals, with_moved}
 use Rattle.vfs_model.specs.RowChange.{HasRow, change_at, changed_file, world_at_change}
-use Rattle.vfs_model.specs.UmountSteps.{empty_mount, is_busy, is_of_mount, mkfs_step, mount_at_point, remove_all, remove_mount, rows_of_mount, umount_at}
+use Rattle.vfs_model.specs.UmountSteps.{come_to_rest, empty_mount, is_busy, is_of_mount, mkfs_step, mount_at_point, remove_all, remove_mount, rows_of_mount, umount_at, unlinked_rows, unreferred}
 use Rattle.vfs_model.specs.World.{after_format, session_of, step_on, step_row, world_step}
 use Rattle.vfs_model.specs.declared.namespace.Backing.{Backing}
 use Rattle.vfs_model.specs.declared.namespace.End.{End}
@@ -220,9 +220,15 @@ mounts-rows : (rows : Rows) (mounts : List Mount) → All HasRow rows.changes �
 mounts-rows rows [] h = h
 mounts-rows rows (mount ∷ mounts) h = mounts-rows (remove_mount rows mount) mounts (removed-rows rows mount h)
 
+rested-rows : (n : Namespace) → All HasRow (come_to_rest n).changes
+unfolding come_to_rest
+rested-rows n =
+    freed-rows end_of_dropped (record { next = unreferred n; changes = [] }) (unlinked_rows n) none
+    (listed-rows (λ row. is_some row.1 && not (is_linked n row.0)) 1 n.live_files (omega arith))
+
 all-rows : (n : Namespace) → All HasRow (remove_all n).changes
 unfolding remove_all
-all-rows n = emptied-rows _ n.root (mounts-rows (record { next = n; changes = [] }) (reverse n.mounts) none)
+all-rows n = emptied-rows _ n.root (mounts-rows (come_to_rest n) (reverse n.mounts) (rested-rows n))
 
 shutdown-rows : (n : Namespace) (m : Mark) → RowsAre (shutdown_step n m)
 unfolding shutdown_step

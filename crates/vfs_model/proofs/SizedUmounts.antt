@@ -1,10 +1,10 @@
 -- Unmounting, formatting and the end make no namespace larger than it may be.
-use Rattle.std.proofs.Common.{◌≡◌, ℕ, zero, suc, ◌≤◌, List, [], ◌∷◌, ◌==◌, length, map, reverse, replicate, slice_index_or, refl, ap, sym, subst, ◌∙◌, arith}
+use Rattle.std.proofs.Common.{◌≡◌, ℕ, zero, suc, ◌-◌, ◌≤◌, List, [], ◌∷◌, ◌==◌, length, map, reverse, replicate, slice_index_or, refl, ap, sym, subst, ◌∙◌, arith}
 use Rattle.std.specs.Prelude.{Bool, true, false, cond, not, ◌||◌, filter, fold, slice_set}
 use Rattle.std.specs.List.{list_any}
 use Rattle.std.proofs.lemmas.Bool.Decides.{nat_tests}
 use Rattle.std.proofs.lemmas.List.{length-map, length-replicate}
-use Rattle.vfs_base.specs.Path.{Path}
+use Rattle.vfs_base.specs.Path.{Path, printed}
 use Rattle.vfs_base.specs.declared.entry.Mark.{Mark}
 use Rattle.vfs_base.specs.declared.entry.Mark.TheVariants as mark
 use Rattle.vfs_base.specs.declared.errno.Errno.TheVariants as errno
@@ -14,11 +14,11 @@ use Rattle.vfs_base.specs.declared.kinds.FsType.TheVariants as fs
 use Rattle.vfs_model.specs.Chain.{refuse◌when◌, wanted}
 use Rattle.vfs_model.specs.Consistency.{is_number}
 use Rattle.vfs_model.specs.Content.{is_mounted}
-use Rattle.vfs_model.specs.FileLife.{Rows, after_end, backing_of, end_of_unmounted, free_row, no_volume, volume_at, volume_named}
-use Rattle.vfs_model.specs.Namespace.{Tree, life_at, same_bytes, tree_of}
+use Rattle.vfs_model.specs.FileLife.{Rows, after_end, backing_of, end_of_dropped, end_of_unmounted, free_row, no_volume, volume_at, volume_named}
+use Rattle.vfs_model.specs.Namespace.{Tree, folder_of, life_at, same_bytes, tree_of}
 use Rattle.vfs_model.specs.NamespaceOutcome.{NamespaceOutcome}
 use Rattle.vfs_model.specs.NamespaceStep.{shutdown_step}
-use Rattle.vfs_model.specs.UmountSteps.{empty_mount, format_volume, is_busy, keep_names, kept_node, mkfs_step, mount_at_point, remove_all, remove_mount, rows_of_mount, umount_at}
+use Rattle.vfs_model.specs.UmountSteps.{come_to_rest, empty_mount, format_volume, is_busy, keep_names, kept_node, mkfs_step, mount_at_point, remove_all, remove_mount, rows_of_mount, umount_at, unlinked_rows, unreferred}
 use Rattle.vfs_model.specs.declared.namespace.Backing.{Backing}
 use Rattle.vfs_model.specs.declared.namespace.End.{End}
 use Rattle.vfs_model.specs.declared.namespace.End.TheVariants as end
@@ -180,10 +180,38 @@ mkfs-sized n name s =
     then-holds Sized (refuse errno.ENXIO when (not (list_any (λ volume. same_bytes volume.name name) n.volumes))) _ (λ h.
     then-holds Sized (refuse errno.EBUSY when (is_mounted n fs.Cell name)) _ (λ l. sized_format n (volume_named n name) s))
 
+root-anywhere : (folders : List Path) (place : ℕ) → slice_index_or (map {B = Path} (λ folder. []) folders) place [] ≡ []
+root-anywhere [] place = refl
+root-anywhere (folder ∷ folders) zero = refl
+root-anywhere (folder ∷ folders) (suc place) = root-anywhere folders place
+
+-- where nobody refers to anything and each session is in `/`
+sized_unreferred : (n : Namespace) → IsSized n → IsSized (unreferred n)
+sized_unreferred n s = record {
+  live_files = s.live_files;
+  generations = s.generations;
+  references = let same : length (unreferred n).references ≡ length n.references = length-map n.references _ in let few = s.references in omega (arith, same, few);
+  working_directories = let same : length (unreferred n).working_directories ≡ length n.working_directories = length-map n.working_directories _ in
+      let few = s.working_directories in omega (arith, same, few);
+  short = λ k. let root : length (printed (folder_of (unreferred n) k)) ≡ length (printed []) = ap (λ folder. length (printed folder)) (root-anywhere n.working_directories (k - 1)) in omega (arith, root);
+  mounts = s.mounts;
+  places = s.places;
+  trees = λ j. s.trees j;
+  spares = λ v. s.spares v;
+  pages = λ v. s.pages v;
+  kept = λ v. s.kept v;
+  roms = λ place. s.roms place;
+  unused = λ number h. s.unused number h;
+}
+
+sized_rest : (n : Namespace) → IsSized n → IsSized (come_to_rest n).next
+unfolding come_to_rest
+sized_rest n s = sized_rows end_of_dropped (record { next = unreferred n; changes = [] }) (unlinked_rows n) (sized_unreferred n s)
+
 -- at the end
 all-sized : (n : Namespace) → IsSized n → IsSized (remove_all n).next
 unfolding remove_all
-all-sized n s = sized_emptied _ n.root (sized_mounts_gone (record { next = n; changes = [] }) (reverse n.mounts) s)
+all-sized n s = sized_emptied _ n.root (sized_mounts_gone (come_to_rest n) (reverse n.mounts) (sized_rest n s))
 
 -- an end that a device failed is remembered
 sized_stopped : (n : Namespace) (is_stopped : Bool) → IsSized n → IsSized (record n { is_stopped = is_stopped })
