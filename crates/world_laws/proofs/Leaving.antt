@@ -11,6 +11,7 @@ use Rattle.vfs_model.specs.Namespace.{life_at}
 use Rattle.vfs_model.specs.UmountSteps.{is_of_mount}
 use Rattle.vfs_model.specs.declared.namespace.LiveFile.{LiveFile}
 use Rattle.vfs_model.specs.declared.namespace.Namespace.{Namespace}
+use Rattle.world_laws.proofs.Counting.{count-place, none-count}
 use Rattle.world_laws.proofs.Emptying.{AllAbove, InRows, RowsLeft}
 use Rattle.world_laws.proofs.Lists.{any-node, below-none, below-or-past, first-there, later-there, nor-first, nor-second, place-any, same-or-other, set-there, t-first, t-second, true-or-false}
 use Rattle.world_laws.proofs.MountKeeping.{counted-place}
@@ -60,32 +61,6 @@ kept-apart test xs place other l m e = elim (below-or-past place other) [
     | inr also ↦ omega (arith, past, also)
   ]
 ]
-
--- a test fails of all where the count is 0
-pub none-count : {X : Type 0} (p : X → Bool) (xs : List X) → list_any p xs ≡ false → count_by p xs ≡ 0
-none-count p [] h = refl
-none-count p (x ∷ xs) h =
-    let one : count_by p (x ∷ xs) ≡ one_if (p x) + count_by p xs = sum_by-cons (λ y. one_if (p y)) x xs in
-    let first : one_if (p x) ≡ 0 = ap one_if (nor-first (p x) (list_any p xs) h) in
-    let later = none-count p xs (nor-second (p x) (list_any p xs) h) in
-    omega (arith, one, first, later)
-
-count-first : {X : Type 0} (p : X → Bool) (x : X) (xs : List X) (b : Bool) → p x ≡ b → (b || list_any p xs) ≡ true → (list_any p xs ≡ true → 0 < count_by p xs) → 0 < count_by p (x ∷ xs)
-count-first p x xs true e h later =
-    let one : count_by p (x ∷ xs) ≡ one_if (p x) + count_by p xs = sum_by-cons (λ y. one_if (p y)) x xs in
-    let first : one_if (p x) ≡ 1 = ap one_if e in
-    omega (arith, one, first)
-count-first p x xs false e h later =
-    let one : count_by p (x ∷ xs) ≡ one_if (p x) + count_by p xs = sum_by-cons (λ y. one_if (p y)) x xs in
-    let more = later h in
-    omega (arith, one, more)
-
-pub some-count : {X : Type 0} (p : X → Bool) (xs : List X) → list_any p xs ≡ true → 0 < count_by p xs
-some-count p [] h = absurd (cc)
-some-count p (x ∷ xs) h = count-first p x xs (p x) refl h (some-count p xs)
-
-pub count-place : {X : Type 0} (p : X → Bool) (xs : List X) (place : ℕ) (d : X) → place < length xs → p (slice_index_or xs place d) ≡ true → 0 < count_by p xs
-count-place p xs place d l h = some-count p xs (place-any p xs place d l h)
 
 pub count-any : {X : Type 0} (p : X → Bool) (xs : List X) (d : X) → 0 < count_by p xs → list_any p xs ≡ true
 count-any p xs d l = let at = counted-place p xs d l in place-any p xs at.place d at.within at.holds

@@ -1,9 +1,11 @@
 pub mod Adding
 pub mod Agreeing
+pub mod AtHome
 pub mod Beside
 pub mod Binding
 pub mod Clear
 pub mod Contents
+pub mod Counting
 pub mod Covering
 pub mod Emptying
 pub mod FileKeeping
@@ -37,6 +39,7 @@ pub mod Vacating
 pub mod MountRemoval
 pub mod UmountKeeping
 pub mod MkfsKeeping
+pub mod HomesKeeping
 pub mod RootRemoval
 pub mod Resting
 pub mod ShutdownKeeping
