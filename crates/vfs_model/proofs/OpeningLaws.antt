@@ -139,7 +139,7 @@ module _ (roms : List RomImage) (describe : Describe) where
     kinds = λ row. ap fits_kind (all-same 1024 None (row - 1));
     mounted = λ volume h. opened-keeps describe.volumes volume;
     kept = λ volume. subst (IsClosedTree is_kept_dir) (sym (opened-keeps describe.volumes volume)) (empty-closed is_kept_dir);
-    sources_differ = λ place other d l m k j e. omega arith;
+    sources_differ = λ place other d l m e. absurd (omega (arith, l));
     named = λ volume. inl (opened-keeps describe.volumes volume);
   }
 

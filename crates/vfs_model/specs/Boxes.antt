@@ -1,10 +1,10 @@
 -- Where cells and character devices are, and the whole record of what holds between steps.
-use Rattle.std.specs.Prelude.{◌≡◌, ℕ, ◌+◌, ◌-◌, ◌*◌, ◌==◌, ◌≤◌, ◌<◌, Bool, true, false, not, ◌&&◌, Option, Some, None, List, [], ◌⊎◌, length, count_by, slice_index_or, if◌then◌else◌}
+use Rattle.std.specs.Prelude.{◌≡◌, ℕ, ◌+◌, ◌-◌, ◌*◌, ◌==◌, ◌≤◌, ◌<◌, Bool, true, false, not, ◌&&◌, Option, Some, None, List, [], ◌⊎◌, length, filter, count_by, slice_index_or, if◌then◌else◌}
 use Rattle.std.specs.List.{list_any}
 use Rattle.vfs_base.specs.declared.kinds.FsType.TheVariants as fs
 use Rattle.vfs_base.specs.declared.kinds.Kind.{Kind}
 use Rattle.vfs_base.specs.declared.limits.TheConstants.{HOLDS, MOUNTS, ROWS, SESSIONS}
-use Rattle.vfs_model.specs.Consistency.{FoldersStand, IsClosedTree, LivesFit, ReferencesLive, RowsUsed, agrees}
+use Rattle.vfs_model.specs.Consistency.{AllDiffer, FoldersStand, IsClosedTree, LivesFit, ReferencesLive, RowsUsed, agrees}
 use Rattle.vfs_model.specs.Content.{is_mounted, no_rom, same_type}
 use Rattle.vfs_model.specs.FileLife.{backing_of, no_device, volume_at, volume_named}
 use Rattle.vfs_model.specs.FileStep.{is_cell}
@@ -67,6 +67,9 @@ fits_kind (Some life) = has_backing life.kind life.backing
     has_backing kind (backing.Cell volume cell) = is_cell kind
     has_backing kind (backing.Device device) = is_device_kind kind
 
+abbrev pub is_cell_mount : Mount → Bool
+is_cell_mount mount = same_type mount.fs fs.Cell
+
 -- each cell is spare or belongs to exactly one file, and a device is out exactly where a row has it
 pub record BoxesPlaced (n : Namespace) : Type 0 where
   pub cells : (volume cell : ℕ) → volume < length n.volumes → cell < length (volume_at n volume).pages →
@@ -78,9 +81,7 @@ pub record BoxesPlaced (n : Namespace) : Type 0 where
   pub mounted : (volume : ℕ) → is_mounted n fs.Cell (volume_at n volume).name ≡ true → (volume_at n volume).kept ≡ []
   pub kept : (volume : ℕ) → IsClosedTree is_kept_dir (volume_at n volume).kept
   -- a volume is mounted once
-  pub sources_differ : (place other : ℕ) (d : Mount) → place < length (all_mounts n) → other < length (all_mounts n) →
-      same_type (slice_index_or (all_mounts n) place d).fs fs.Cell ≡ true → same_type (slice_index_or (all_mounts n) other d).fs fs.Cell ≡ true →
-      (slice_index_or (all_mounts n) place d).source ≡ (slice_index_or (all_mounts n) other d).source → place ≡ other
+  pub sources_differ : AllDiffer (λ mount. mount.source) (filter is_cell_mount (all_mounts n))
   -- of volumes with one name, which no description has, the first alone is ever mounted
   pub named : (volume : ℕ) → ((volume_at n volume).kept ≡ []) ⊎ (volume_named n (volume_at n volume).name ≡ volume)
 

@@ -22,14 +22,17 @@ use Rattle.vfs_model.specs.declared.namespace.Reference.{Reference}
 use Rattle.vfs_model.specs.declared.world.FileState.{FileState}
 use Rattle.vfs_model.specs.declared.world.FileState.TheVariants as file
 
-abbrev pub kind_number : Kind → ℕ
-kind_number kind.Tmp = 0
-kind_number kind.Rom = 1
-kind_number kind.Cell = 2
-kind_number kind.Chr = 3
+-- no two places of the list have one value of the function
+abbrev pub AllDiffer : {X Y : Type 0} → (X → Y) → List X → Type 0
+AllDiffer {X} value items = (place other : ℕ) (d : X) → place < length items → other < length items →
+    value (slice_index_or items place d) ≡ value (slice_index_or items other d) → place ≡ other
 
 abbrev pub same_kind : Kind → Kind → Bool
-same_kind a b = kind_number a == kind_number b
+same_kind kind.Tmp kind.Tmp = true
+same_kind kind.Rom kind.Rom = true
+same_kind kind.Cell kind.Cell = true
+same_kind kind.Chr kind.Chr = true
+same_kind _ _ = false
 
 -- a row's file is what its live file says, of the row's generation
 abbrev pub agrees : Option LiveFile → ℕ → FileState → Bool
@@ -84,10 +87,8 @@ pub record FoldersStand (n : Namespace) : Type 0 where
   pub short : (k : ℕ) → length (printed (folder_of n k)) ≤ PATH_MAX
   pub root : (n.root.point ≡ []) × (n.root.number ≡ 0) × (n.root.fs ≡ fs.Tmp)
   pub points : (place : ℕ) (d : Mount) → place < length n.mounts → stands_on_folder n (slice_index_or n.mounts place d).point
-  pub points_differ : (place other : ℕ) (d : Mount) → place < length (all_mounts n) → other < length (all_mounts n) →
-      (slice_index_or (all_mounts n) place d).point ≡ (slice_index_or (all_mounts n) other d).point → place ≡ other
-  pub numbers_differ : (place other : ℕ) (d : Mount) → place < length (all_mounts n) → other < length (all_mounts n) →
-      (slice_index_or (all_mounts n) place d).number ≡ (slice_index_or (all_mounts n) other d).number → place ≡ other
+  pub points_differ : AllDiffer (λ mount. mount.point) (all_mounts n)
+  pub numbers_differ : AllDiffer (λ mount. mount.number) (all_mounts n)
   pub numbers : (place : ℕ) (d : Mount) → place < length (all_mounts n) → (slice_index_or (all_mounts n) place d).number < MOUNTS
   -- no point lies below one that was mounted later
   pub nested : (place other : ℕ) (d : Mount) → place < other → other < length (all_mounts n) →

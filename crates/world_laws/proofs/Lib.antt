@@ -12,6 +12,7 @@ pub mod FileKeeping
 pub mod FileKeepingSteps
 pub mod FillAll
 pub mod Filling
+pub mod Filters
 pub mod FreeRows
 pub mod Freeing
 pub mod Growing
