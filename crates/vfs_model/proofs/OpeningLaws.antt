@@ -5,10 +5,10 @@ use Rattle.vfs_base.specs.Path.{Path, path_cmp}
 use Rattle.vfs_base.specs.declared.describe.CharsShape.{CharsShape}
 use Rattle.vfs_base.specs.declared.describe.Describe.{Describe}
 use Rattle.vfs_base.specs.declared.describe.VolumeShape.{VolumeShape}
-use Rattle.vfs_model.specs.Boxes.{BoxesPlaced, CellsFit, HasSizes, IsConsistent, RomsClosed, fits_kind, is_kept_dir, one_if}
+use Rattle.vfs_model.specs.Boxes.{BoxesPlaced, CellsFit, HasSizes, HomesFit, IsConsistent, RomsClosed, fits_kind, is_kept_dir, one_if}
 use Rattle.vfs_model.specs.Consistency.{FoldersStand, IsClosedTree, LivesFit, ReferencesLive, RowsUsed, agrees}
 use Rattle.vfs_model.specs.FileLife.{no_device, no_volume}
-use Rattle.vfs_model.specs.Homes.{empty_cells, file_at, opening_world}
+use Rattle.vfs_model.specs.Homes.{empty_cells, file_at, opening_home, opening_world}
 use Rattle.vfs_model.specs.Lookup.{covering_mount, is_dir_node, is_folder, node_at}
 use Rattle.vfs_model.specs.Namespace.{folder_of, generation_at, life_at, opening_device, opening_namespace, opening_volume, root_mount, tree_of}
 use Rattle.vfs_model.specs.declared.namespace.Mount.{Mount}
@@ -53,6 +53,20 @@ opened-bytes : (shapes : List VolumeShape) (volume cell : ℕ) → slice_index_o
 opened-bytes [] volume cell = refl
 opened-bytes (shape ∷ shapes) zero cell = all-same (length shape.pages) [] cell
 opened-bytes (shape ∷ shapes) (suc volume) cell = opened-bytes shapes volume cell
+
+opened-lengths : (shapes : List VolumeShape) → length (map empty_cells shapes) ≡ length (map opening_volume shapes)
+opened-lengths [] = refl
+opened-lengths (shape ∷ shapes) = ap suc (opened-lengths shapes)
+
+opened-cells : (shapes : List VolumeShape) (volume : ℕ) →
+    length (slice_index_or (map empty_cells shapes) volume []) ≡ length (slice_index_or (map opening_volume shapes) volume no_volume).pages
+opened-cells [] volume = refl
+opened-cells (shape ∷ shapes) zero = length-of-replicate (length shape.pages) []
+opened-cells (shape ∷ shapes) (suc volume) = opened-cells shapes volume
+
+opened-devices : (shapes : List CharsShape) → length (map opening_home shapes) ≡ length (map opening_device shapes)
+opened-devices [] = refl
+opened-devices (shape ∷ shapes) = ap suc (opened-devices shapes)
 
 opened-device : (shapes : List CharsShape) (place : ℕ) → (slice_index_or (map opening_device shapes) place no_device).is_out ≡ false
 opened-device [] place = refl
@@ -125,7 +139,7 @@ module _ (roms : List RomImage) (describe : Describe) where
     kinds = λ row. ap fits_kind (all-same 1024 None (row - 1));
     mounted = λ volume h. opened-keeps describe.volumes volume;
     kept = λ volume. subst (IsClosedTree is_kept_dir) (sym (opened-keeps describe.volumes volume)) (empty-closed is_kept_dir);
-    sources_differ = λ place other d l m k j e. omega arith;
+    sources_differ = λ place other d l m e. absurd (omega (arith, l));
     named = λ volume. inl (opened-keeps describe.volumes volume);
   }
 
@@ -137,6 +151,16 @@ module _ (roms : List RomImage) (describe : Describe) where
   cells-fit = record {
     live = λ row volume cell h. rw (all-same 1024 (file.Unbound 0) (row - 1)) (omega arith);
     home = λ volume cell. rw (opened-bytes describe.volumes volume cell) (omega arith);
+  }
+
+  homes-fit : HomesFit (opening_world roms describe)
+  unfolding opening_namespace opening_world
+  homes-fit = record {
+    volumes = opened-lengths describe.volumes;
+    cells = λ volume. opened-cells describe.volumes volume;
+    devices = opened-devices describe.chars;
+    kept = λ volume cell h. opened-bytes describe.volumes volume cell;
+    out = λ device h. let no = opened-device describe.chars device in absurd (cc);
   }
 
   sizes : HasSizes (opening_world roms describe)
@@ -155,6 +179,7 @@ module _ (roms : List RomImage) (describe : Describe) where
     boxes_placed = boxes-placed;
     live_files_fit = live_files-fit;
     cells_fit = cells-fit;
+    homes_fit = homes-fit;
     roms_closed = closed;
     sizes = sizes;
   }

@@ -1,15 +1,17 @@
 -- Where cells and character devices are, and the whole record of what holds between steps.
-use Rattle.std.specs.Prelude.{◌≡◌, ℕ, ◌+◌, ◌==◌, ◌≤◌, ◌<◌, Bool, true, false, not, ◌&&◌, Option, Some, None, List, [], ◌⊎◌, length, count_by, slice_index_or, if◌then◌else◌}
+use Rattle.std.specs.Prelude.{◌≡◌, ℕ, ◌+◌, ◌-◌, ◌*◌, ◌==◌, ◌≤◌, ◌<◌, Bool, true, false, not, ◌&&◌, Option, Some, None, List, [], ◌⊎◌, length, filter, count_by, slice_index_or, if◌then◌else◌}
+use Rattle.std.specs.List.{list_any}
 use Rattle.vfs_base.specs.declared.kinds.FsType.TheVariants as fs
 use Rattle.vfs_base.specs.declared.kinds.Kind.{Kind}
-use Rattle.vfs_model.specs.Consistency.{FoldersStand, IsClosedTree, LivesFit, ReferencesLive, RowsUsed, agrees}
+use Rattle.vfs_base.specs.declared.limits.TheConstants.{HOLDS, MOUNTS, ROWS, SESSIONS}
+use Rattle.vfs_model.specs.Consistency.{AllDiffer, FoldersStand, IsClosedTree, LivesFit, ReferencesLive, RowsUsed, agrees}
 use Rattle.vfs_model.specs.Content.{is_mounted, no_rom, same_type}
 use Rattle.vfs_model.specs.FileLife.{backing_of, no_device, volume_at, volume_named}
 use Rattle.vfs_model.specs.FileStep.{is_cell}
 use Rattle.vfs_model.specs.Lookup.{is_dir_node}
 use Rattle.vfs_model.specs.Namespace.{all_mounts, generation_at, life_at, tree_of}
 use Rattle.vfs_model.specs.ReferenceSteps.{is_device_kind}
-use Rattle.vfs_model.specs.Homes.{cell_bytes, cell_capacity, file_at}
+use Rattle.vfs_model.specs.Homes.{cell_bytes, cell_capacity, device_home, file_at, no_home}
 use Rattle.vfs_model.specs.declared.namespace.Backing.{Backing}
 use Rattle.vfs_model.specs.declared.namespace.Backing.TheVariants as backing
 use Rattle.vfs_model.specs.declared.namespace.KeptNode.{KeptNode}
@@ -65,6 +67,9 @@ fits_kind (Some life) = has_backing life.kind life.backing
     has_backing kind (backing.Cell volume cell) = is_cell kind
     has_backing kind (backing.Device device) = is_device_kind kind
 
+abbrev pub is_cell_mount : Mount → Bool
+is_cell_mount mount = same_type mount.fs fs.Cell
+
 -- each cell is spare or belongs to exactly one file, and a device is out exactly where a row has it
 pub record BoxesPlaced (n : Namespace) : Type 0 where
   pub cells : (volume cell : ℕ) → volume < length n.volumes → cell < length (volume_at n volume).pages →
@@ -76,9 +81,7 @@ pub record BoxesPlaced (n : Namespace) : Type 0 where
   pub mounted : (volume : ℕ) → is_mounted n fs.Cell (volume_at n volume).name ≡ true → (volume_at n volume).kept ≡ []
   pub kept : (volume : ℕ) → IsClosedTree is_kept_dir (volume_at n volume).kept
   -- a volume is mounted once
-  pub sources_differ : (place other : ℕ) (d : Mount) → place < length (all_mounts n) → other < length (all_mounts n) →
-      same_type (slice_index_or (all_mounts n) place d).fs fs.Cell ≡ true → same_type (slice_index_or (all_mounts n) other d).fs fs.Cell ≡ true →
-      (slice_index_or (all_mounts n) place d).source ≡ (slice_index_or (all_mounts n) other d).source → place ≡ other
+  pub sources_differ : AllDiffer (λ mount. mount.source) (filter is_cell_mount (all_mounts n))
   -- of volumes with one name, which no description has, the first alone is ever mounted
   pub named : (volume : ℕ) → ((volume_at n volume).kept ≡ []) ⊎ (volume_named n (volume_at n volume).name ≡ volume)
 
@@ -103,14 +106,23 @@ pub record CellsFit (w : WorldState) : Type 0 where
       file_capacity (file_at w row) ≤ cell_capacity w.namespace volume cell
   pub home : (volume cell : ℕ) → length (cell_bytes w.homes volume cell) ≤ cell_capacity w.namespace volume cell
 
+-- What lies at home: each cell and each device of the namespace has its place. A cell has bytes at home only where an
+-- unmounted volume keeps a file on it, and a device that is out has nothing at home.
+pub record HomesFit (w : WorldState) : Type 0 where
+  pub volumes : length w.homes.cells ≡ length w.namespace.volumes
+  pub cells : (volume : ℕ) → length (slice_index_or w.homes.cells volume []) ≡ length (volume_at w.namespace volume).pages
+  pub devices : length w.homes.devices ≡ length w.namespace.devices
+  pub kept : (volume cell : ℕ) → list_any (λ entry. is_kept_on cell entry.1) (volume_at w.namespace volume).kept ≡ false → cell_bytes w.homes volume cell ≡ []
+  pub out : (device : ℕ) → (slice_index_or w.namespace.devices device no_device).is_out ≡ true → device_home w.homes device ≡ no_home
+
 -- how many places the lists of a world have
 pub record HasSizes (w : WorldState) : Type 0 where
-  pub files : length w.files ≡ 1024
-  pub live_files : length w.namespace.live_files ≡ 1024
-  pub generations : length w.namespace.generations ≡ 1024
-  pub trees : length w.namespace.trees ≡ 16
-  pub working_directories : length w.namespace.working_directories ≡ 8
-  pub mounts : length w.namespace.mounts ≤ 15
+  pub files : length w.files ≡ ROWS
+  pub live_files : length w.namespace.live_files ≡ ROWS
+  pub generations : length w.namespace.generations ≡ ROWS
+  pub trees : length w.namespace.trees ≡ MOUNTS
+  pub working_directories : length w.namespace.working_directories ≡ SESSIONS
+  pub mounts : length w.namespace.mounts ≤ MOUNTS - 1
 
 -- what holds of the world between steps
 pub record IsConsistent (w : WorldState) : Type 0 where
@@ -118,12 +130,13 @@ pub record IsConsistent (w : WorldState) : Type 0 where
   pub rows_agree : (row : ℕ) → agrees (life_at w.namespace row) (generation_at w.namespace row) (file_at w row) ≡ true
   pub references_live : ReferencesLive w.namespace
   pub rows_used : RowsUsed w.namespace
-  -- each of the 8 sessions has a place for each of the numbers 1 to 32
-  pub references_bounded : length w.namespace.references ≡ 256
+  -- each session has a place for each of its references
+  pub references_bounded : length w.namespace.references ≡ SESSIONS * HOLDS
   pub folders_stand : FoldersStand w.namespace
   pub trees_closed : (number : ℕ) → IsClosedTree is_dir_node (tree_of w.namespace number)
   pub boxes_placed : BoxesPlaced w.namespace
   pub live_files_fit : LivesFit w.namespace
   pub cells_fit : CellsFit w
+  pub homes_fit : HomesFit w
   pub roms_closed : RomsClosed w.namespace.roms
   pub sizes : HasSizes w

@@ -8,6 +8,7 @@ use Rattle.vfs_base.specs.declared.kinds.FsType.TheVariants as fs
 use Rattle.vfs_base.specs.declared.kinds.Kind.{Kind}
 use Rattle.vfs_base.specs.declared.kinds.Kind.TheVariants as kind
 use Rattle.vfs_base.specs.declared.kinds.NodeKind.TheVariants as node
+use Rattle.vfs_base.specs.declared.limits.TheConstants.{MOUNTS, NODES, PATH_MAX}
 use Rattle.vfs_model.specs.FileLife.{is_held, is_linked, volume_named}
 use Rattle.vfs_model.specs.Lookup.{is_below, is_folder, nearest, node_in}
 use Rattle.vfs_model.specs.Namespace.{all_mounts, folder_of, generation_at, life_at, same_path, tree_of}
@@ -21,14 +22,17 @@ use Rattle.vfs_model.specs.declared.namespace.Reference.{Reference}
 use Rattle.vfs_model.specs.declared.world.FileState.{FileState}
 use Rattle.vfs_model.specs.declared.world.FileState.TheVariants as file
 
-abbrev pub kind_number : Kind → ℕ
-kind_number kind.Tmp = 0
-kind_number kind.Rom = 1
-kind_number kind.Cell = 2
-kind_number kind.Chr = 3
+-- no two places of the list have one value of the function
+abbrev pub AllDiffer : {X Y : Type 0} → (X → Y) → List X → Type 0
+AllDiffer {X} value items = (place other : ℕ) (d : X) → place < length items → other < length items →
+    value (slice_index_or items place d) ≡ value (slice_index_or items other d) → place ≡ other
 
 abbrev pub same_kind : Kind → Kind → Bool
-same_kind a b = kind_number a == kind_number b
+same_kind kind.Tmp kind.Tmp = true
+same_kind kind.Rom kind.Rom = true
+same_kind kind.Cell kind.Cell = true
+same_kind kind.Chr kind.Chr = true
+same_kind _ _ = false
 
 -- a row's file is what its live file says, of the row's generation
 abbrev pub agrees : Option LiveFile → ℕ → FileState → Bool
@@ -80,14 +84,12 @@ stands_on_folder n point =
 -- each working directory and each point is a folder, mounts have different points and numbers, and `/` lies in memory
 pub record FoldersStand (n : Namespace) : Type 0 where
   pub working_directories : (k : ℕ) → is_folder n (folder_of n k) ≡ true
-  pub short : (k : ℕ) → length (printed (folder_of n k)) ≤ 1024
+  pub short : (k : ℕ) → length (printed (folder_of n k)) ≤ PATH_MAX
   pub root : (n.root.point ≡ []) × (n.root.number ≡ 0) × (n.root.fs ≡ fs.Tmp)
   pub points : (place : ℕ) (d : Mount) → place < length n.mounts → stands_on_folder n (slice_index_or n.mounts place d).point
-  pub points_differ : (place other : ℕ) (d : Mount) → place < length (all_mounts n) → other < length (all_mounts n) →
-      (slice_index_or (all_mounts n) place d).point ≡ (slice_index_or (all_mounts n) other d).point → place ≡ other
-  pub numbers_differ : (place other : ℕ) (d : Mount) → place < length (all_mounts n) → other < length (all_mounts n) →
-      (slice_index_or (all_mounts n) place d).number ≡ (slice_index_or (all_mounts n) other d).number → place ≡ other
-  pub numbers : (place : ℕ) (d : Mount) → place < length (all_mounts n) → (slice_index_or (all_mounts n) place d).number < 16
+  pub points_differ : AllDiffer (λ mount. mount.point) (all_mounts n)
+  pub numbers_differ : AllDiffer (λ mount. mount.number) (all_mounts n)
+  pub numbers : (place : ℕ) (d : Mount) → place < length (all_mounts n) → (slice_index_or (all_mounts n) place d).number < MOUNTS
   -- no point lies below one that was mounted later
   pub nested : (place other : ℕ) (d : Mount) → place < other → other < length (all_mounts n) →
       is_below (slice_index_or (all_mounts n) other d).point (slice_index_or (all_mounts n) place d).point ≡ false
@@ -112,10 +114,10 @@ abbrev pub LivesFit : Namespace → Type 0
 LivesFit n = (row : ℕ) (life : LiveFile) → life_at n row ≡ Some life →
     IsSomeAnd (mount_numbered n life.mount) (λ mount. fits_mount n life mount ≡ true)
 
--- a tree of at most 4096 nodes, in the order of paths, in which each parent is a folder
+-- a tree that is not too large, in the order of paths, in which each parent is a folder
 pub record IsClosedTree {X : Type 0} (is_dir : Option X → Bool) (tree : List (Path × X)) : Type 0 where
   pub sorted : T (is_sorted path_cmp tree)
   pub rootless : value_at path_cmp [] tree ≡ None
   pub parents : (front : Path) (name : List ℕ) → is_some (value_at path_cmp (front ++ name ∷ []) tree) ≡ true →
       (is_dir (value_at path_cmp front tree) || same_path front []) ≡ true
-  pub bounded : length tree ≤ 4096
+  pub bounded : length tree ≤ NODES

@@ -3,18 +3,20 @@ use Rattle.std.proofs.Common.{◌≡◌, ◌≢◌, ℕ, ◌+◌, ◌-◌, ◌<�
 use Rattle.std.proofs.lemmas.Bool.{le-leb, leb-true}
 use Rattle.std.proofs.lemmas.List.{length-set}
 use Rattle.std.specs.Prelude.{nat_le}
+use Rattle.vfs_base.specs.Path.{Path}
 use Rattle.vfs_base.specs.declared.kinds.Kind.{Kind}
 use Rattle.vfs_base.specs.declared.kinds.Kind.TheVariants as kind
 use Rattle.vfs_base.specs.declared.limits.TheConstants.{TMP_FILE_MAX}
 use Rattle.vfs_model.specs.Boxes.{file_capacity}
 use Rattle.vfs_model.specs.Consistency.{agrees, same_kind}
-use Rattle.vfs_model.specs.FileLife.{after_end, after_taking, backing_of, bind_row, next_file, with_cell, with_device}
-use Rattle.vfs_model.specs.Homes.{bound_file, bytes_of, cell_bytes, cell_capacity, change_row, file_at, homes_after_bind, homes_after_end, rom_bytes, with_cell_bytes}
+use Rattle.vfs_model.specs.FileLife.{after_end, after_taking, backing_of, bind_row, next_file, volume_at, with_cell, with_device, with_kept}
+use Rattle.vfs_model.specs.Homes.{bound_file, bytes_of, cell_bytes, cell_capacity, change_row, device_home, file_at, homes_after_bind, homes_after_end, no_home, rom_bytes, with_cell_bytes, with_device_home}
 use Rattle.vfs_model.specs.Namespace.{file_of, generation_at, life_at}
 use Rattle.vfs_model.specs.declared.namespace.Backing.{Backing}
 use Rattle.vfs_model.specs.declared.namespace.Backing.TheVariants as backing
 use Rattle.vfs_model.specs.declared.namespace.End.{End}
 use Rattle.vfs_model.specs.declared.namespace.End.TheVariants as end
+use Rattle.vfs_model.specs.declared.namespace.KeptNode.{KeptNode}
 use Rattle.vfs_model.specs.declared.namespace.LiveFile.{LiveFile}
 use Rattle.vfs_model.specs.declared.namespace.Namespace.{Namespace}
 use Rattle.vfs_model.specs.declared.namespace.Origin.{Origin}
@@ -22,27 +24,45 @@ use Rattle.vfs_model.specs.declared.namespace.Origin.TheVariants as origin
 use Rattle.vfs_model.specs.declared.namespace.RowChange.TheVariants as change
 use Rattle.vfs_model.specs.declared.world.FileState.{FileState}
 use Rattle.vfs_model.specs.declared.world.FileState.TheVariants as file
+use Rattle.vfs_model.specs.declared.world.Homes.{Homes}
 use Rattle.vfs_model.specs.declared.world.WorldState.{WorldState}
+use Rattle.world_laws.proofs.AtHome.{AtHome, MayEnd, cell-volume, empty-in, home-beside, home-emptied, home-ended, home-life, home-named, home-out, home-taken, no-cell, no-device, no-home-set}
 use Rattle.world_laws.proofs.Lists.{number-itself, same-or-other, set-here, set-there}
 use Rattle.world_laws.proofs.Passing.{and-both, and-second}
 use Rattle.world_laws.proofs.Taking.{set-at, with_life}
 
 -- the files of a world are those that the namespace says, and its cells hold what lies on them
-pub record Agrees (v : WorldState) (n : Namespace) : Type 0 where
+pub record FilesAgree (v : WorldState) (n : Namespace) : Type 0 where
   pub files : length v.files ≡ 1024
   pub agree : (row : ℕ) → agrees (life_at n row) (generation_at n row) (file_at v row) ≡ true
   pub live : (row volume cell : ℕ) → backing_of (life_at n row) ≡ backing.Cell volume cell → file_capacity (file_at v row) ≤ cell_capacity v.namespace volume cell
   pub home : (volume cell : ℕ) → length (cell_bytes v.homes volume cell) ≤ cell_capacity v.namespace volume cell
 
+-- the files of a world are those that the namespace says, and what lies at home fits it
+pub record Agrees (v : WorldState) (n : Namespace) : Type 0 where
+  pub files : FilesAgree v n
+  pub homes : AtHome v.homes n
+
 -- lives and generations alone tell which files agree
-pub agrees-beside : (v : WorldState) (n m : Namespace) → n.live_files ≡ m.live_files → n.generations ≡ m.generations → Agrees v n → Agrees v m
-agrees-beside v n m e g a = record {
+files-beside : (v : WorldState) (n m : Namespace) → n.live_files ≡ m.live_files → n.generations ≡ m.generations → FilesAgree v n → FilesAgree v m
+files-beside v n m e g a = record {
   files = a.files;
   agree = λ row. subst (λ live_files. agrees (slice_index_or live_files (row - 1) None) (generation_at m row) (file_at v row) ≡ true) e
       (subst (λ generations. agrees (life_at n row) (slice_index_or generations (row - 1) 0) (file_at v row) ≡ true) g (a.agree row));
   live = λ row volume cell h. a.live row volume cell (subst (λ live_files. backing_of (slice_index_or live_files (row - 1) None) ≡ backing.Cell volume cell) (sym e) h);
   home = a.home;
 }
+
+-- lives, generations, volumes and devices alone tell what agrees
+pub agrees-beside : (v : WorldState) (n m : Namespace) → n.live_files ≡ m.live_files → n.generations ≡ m.generations → n.volumes ≡ m.volumes → n.devices ≡ m.devices →
+    Agrees v n → Agrees v m
+agrees-beside v n m live_files generations volumes devices a =
+    record { files = files-beside v n m live_files generations a.files; homes = home-beside v.homes n m live_files volumes devices a.homes }
+
+-- and of a volume not the names that it keeps
+pub agrees-named : (v : WorldState) (n : Namespace) (volume : ℕ) (names : List (Path × KeptNode)) → Agrees v n → Agrees v (with_kept n volume names)
+agrees-named v n volume names a =
+    record { files = files-beside v n (with_kept n volume names) refl refl a.files; homes = home-named v.homes n volume names a.homes }
 
 -- what a file begins with is of its kind, and is what it lies on
 abbrev pub Begins : LiveFile → Origin → Type 0
@@ -76,25 +96,6 @@ bound-agrees v generation life (origin.NewCell volume cell) b home =
     bytes-agree life generation (cell_capacity v.namespace volume cell) kind.Cell [] b.0 refl (omega arith)
 bound-agrees v generation life (origin.Device device) b home =
     and-both (generation == generation) (same_kind life.kind kind.Chr) (number-itself generation) (ap (λ x. same_kind x kind.Chr) b.0)
-
-no-cell : (volume cell : ℕ) → backing.Memory ≢ backing.Cell volume cell
-no-cell volume cell e = absurd (cc)
-
-no-device : (device volume cell : ℕ) → backing.Device device ≢ backing.Cell volume cell
-no-device device volume cell e = absurd (cc)
-
-cell-volume : (v c w d : ℕ) → backing.Cell v c ≡ backing.Cell w d → (v ≡ w) × (c ≡ d)
-cell-volume v c w d e = (ap first e, ap second e)
-  where
-    first : Backing → ℕ
-    first backing.Memory = v
-    first (backing.Cell volume cell) = volume
-    first (backing.Device device) = v
-
-    second : Backing → ℕ
-    second backing.Memory = c
-    second (backing.Cell volume cell) = cell
-    second (backing.Device device) = c
 
 bound-fits : (v : WorldState) (generation : ℕ) (life : LiveFile) (begins : Origin) (volume cell : ℕ) → Begins life begins → life.backing ≡ backing.Cell volume cell →
     file_capacity (bound_file v generation begins) ≤ cell_capacity v.namespace volume cell
@@ -131,16 +132,16 @@ bound-home v (origin.NewCell volume cell) home = home
 bound-home v (origin.Device device) home = home
 
 -- what agrees hangs on lives and generations, which taking and giving back cells and devices leaves
-pub agrees-taken : (v : WorldState) (m : Namespace) (b : Backing) → Agrees v m → Agrees v (after_taking m b)
-agrees-taken v m backing.Memory a = a
-agrees-taken v m (backing.Cell volume cell) a = agrees-beside v m (with_cell false m volume cell) refl refl a
-agrees-taken v m (backing.Device device) a = agrees-beside v m (with_device true m device) refl refl a
+files-taken : (v : WorldState) (m : Namespace) (b : Backing) → FilesAgree v m → FilesAgree v (after_taking m b)
+files-taken v m backing.Memory a = a
+files-taken v m (backing.Cell volume cell) a = files-beside v m (with_cell false m volume cell) refl refl a
+files-taken v m (backing.Device device) a = files-beside v m (with_device true m device) refl refl a
 
-pub agrees-ended : (v : WorldState) (m : Namespace) (e : End) → Agrees v m → Agrees v (after_end m e)
-agrees-ended v m end.Nothing a = a
-agrees-ended v m (end.Spare volume cell) a = agrees-beside v m (with_cell true m volume cell) refl refl a
-agrees-ended v m (end.Kept volume cell) a = a
-agrees-ended v m (end.Device device) a = agrees-beside v m (with_device false m device) refl refl a
+files-ended : (v : WorldState) (m : Namespace) (e : End) → FilesAgree v m → FilesAgree v (after_end m e)
+files-ended v m end.Nothing a = a
+files-ended v m (end.Spare volume cell) a = files-beside v m (with_cell true m volume cell) refl refl a
+files-ended v m (end.Kept volume cell) a = a
+files-ended v m (end.Device device) a = files-beside v m (with_device false m device) refl refl a
 
 -- one row of both changes
 row-agrees : (v : WorldState) (n : Namespace) (row other : ℕ) (found : Option LiveFile) (generation : ℕ) (f : FileState) → row - 1 < length v.files → row - 1 < length n.live_files → row - 1 < length n.generations →
@@ -178,15 +179,15 @@ row-fits v n row other volume cell found f l m new old (inr e) h =
     (old (sym (ap backing_of (set-there n.live_files (row - 1) (other - 1) found None e)) ∙ h))
 
 -- a row is bound in both
-pub bind-agrees : (v : WorldState) (n : Namespace) (row : ℕ) (life : LiveFile) (begins : Origin) → row - 1 < 1024 → length n.live_files ≡ 1024 → length n.generations ≡ 1024 → Begins life begins →
-    Agrees v n → Agrees (change_row v (change.Bind (next_file n row) begins)) (bind_row n row life)
+bind-files : (v : WorldState) (n : Namespace) (row : ℕ) (life : LiveFile) (begins : Origin) → row - 1 < 1024 → length n.live_files ≡ 1024 → length n.generations ≡ 1024 → Begins life begins →
+    FilesAgree v n → FilesAgree (change_row v (change.Bind (next_file n row) begins)) (bind_row n row life)
 unfolding bind_row
-bind-agrees v n row life begins l live_files generations b a =
+bind-files v n row life begins l live_files generations b a =
     let f = bound_file v (generation_at n row + 1) begins in
     let in_files : row - 1 < length v.files = subst (λ x. row - 1 < x) (sym a.files) l in
     let in_live_files : row - 1 < length n.live_files = subst (λ x. row - 1 < x) (sym live_files) l in
     let in_generations : row - 1 < length n.generations = subst (λ x. row - 1 < x) (sym generations) l in
-    agrees-taken (change_row v (change.Bind (next_file n row) begins)) (with_life n row (Some life) (slice_set n.generations (row - 1) (generation_at n row + 1))) life.backing (record {
+    files-taken (change_row v (change.Bind (next_file n row) begins)) (with_life n row (Some life) (slice_set n.generations (row - 1) (generation_at n row + 1))) life.backing (record {
       files = length-set v.files (row - 1) f ∙ a.files;
       agree = λ other. row-agrees v n row other (Some life) (generation_at n row + 1) f in_files in_live_files in_generations (bound-agrees v (generation_at n row + 1) life begins b a.home) (a.agree other)
           (same-or-other (other - 1) (row - 1));
@@ -195,6 +196,58 @@ bind-agrees v n row life begins l live_files generations b a =
       home = bound-home v begins a.home;
     })
 
+-- a cell on which a file is made is spare
+abbrev pub IsNewSpare : Namespace → Origin → Type 0
+IsNewSpare n (origin.NewCell volume cell) = slice_index_or (volume_at n volume).spare cell false ≡ true
+IsNewSpare n _ = Unit {0}
+
+no-cell-device : (volume cell device : ℕ) → backing.Cell volume cell ≢ backing.Device device
+no-cell-device volume cell device e = absurd (cc)
+
+no-memory-device : (device : ℕ) → backing.Memory ≢ backing.Device device
+no-memory-device device e = absurd (cc)
+
+device-is : (d e : ℕ) → backing.Device d ≡ backing.Device e → d ≡ e
+device-is d e h = ap of h
+  where
+    of : Backing → ℕ
+    of backing.Memory = d
+    of (backing.Cell volume cell) = d
+    of (backing.Device device) = device
+
+bind-homes : (homes : Homes) (n : Namespace) (row : ℕ) (life : LiveFile) (generations : List ℕ) (begins : Origin) → Begins life begins → IsNewSpare n begins →
+    AtHome homes n → AtHome (homes_after_bind homes begins) (after_taking (with_life n row (Some life) generations) life.backing)
+bind-homes homes n row life generations origin.Empty b new a =
+    home-taken homes (with_life n row (Some life) generations) life.backing (λ d e. absurd (no-memory-device d (sym b.1 ∙ e)))
+    (home-life homes n row (Some life) generations (λ v c e. absurd (no-cell v c (sym b.1 ∙ e))) a)
+bind-homes homes n row life generations (origin.Rom place path) b new a =
+    home-taken homes (with_life n row (Some life) generations) life.backing (λ d e. absurd (no-memory-device d (sym b.1 ∙ e)))
+    (home-life homes n row (Some life) generations (λ v c e. absurd (no-cell v c (sym b.1 ∙ e))) a)
+bind-homes homes n row life generations (origin.Cell v c) b new a =
+    let emptied = with_cell_bytes homes v c [] in
+    home-taken emptied (with_life n row (Some life) generations) life.backing (λ d e. absurd (no-cell-device v c d (sym b.1 ∙ e)))
+    (home-life emptied n row (Some life) generations (λ w d e.
+    let same = cell-volume v c w d (sym b.1 ∙ e) in
+    ap (λ x. cell_bytes emptied x d) (sym same.0) ∙ ap (λ x. cell_bytes emptied v x) (sym same.1) ∙ empty-in homes.cells v c)
+    (home-emptied homes n v c a))
+bind-homes homes n row life generations (origin.NewCell v c) b new a =
+    home-taken homes (with_life n row (Some life) generations) life.backing (λ d e. absurd (no-cell-device v c d (sym b.1 ∙ e)))
+    (home-life homes n row (Some life) generations (λ w d e.
+    let same = cell-volume v c w d (sym b.1 ∙ e) in
+    ap (λ x. cell_bytes homes x d) (sym same.0) ∙ ap (λ x. cell_bytes homes v x) (sym same.1) ∙ a.spare v c new) a)
+bind-homes homes n row life generations (origin.Device d) b new a =
+    let away = with_device_home homes d no_home in
+    home-taken away (with_life n row (Some life) generations) life.backing (λ e h. ap (device_home away) (sym (device-is d e (sym b.1 ∙ h))) ∙ no-home-set homes.devices d)
+    (home-life away n row (Some life) generations (λ v c e. absurd (no-device d v c (sym b.1 ∙ e))) (home-out homes n d a))
+
+pub bind-agrees : (v : WorldState) (n : Namespace) (row : ℕ) (life : LiveFile) (begins : Origin) → row - 1 < 1024 → length n.live_files ≡ 1024 → length n.generations ≡ 1024 → Begins life begins →
+    IsNewSpare n begins → Agrees v n → Agrees (change_row v (change.Bind (next_file n row) begins)) (bind_row n row life)
+unfolding bind_row
+bind-agrees v n row life begins l live_files generations b new a = record {
+  files = bind-files v n row life begins l live_files generations b a.files;
+  homes = bind-homes v.homes n row life (slice_set n.generations (row - 1) (generation_at n row + 1)) begins b new a.homes;
+}
+
 -- the bytes of a live file are within its capacity
 agreed-length : (found : Option LiveFile) (generation : ℕ) (f : FileState) → agrees found generation f ≡ true → length (bytes_of f) ≤ file_capacity f
 agreed-length found generation (file.Unbound g) h = omega arith
@@ -202,27 +255,20 @@ agreed-length found generation (file.Device g input output) h = omega arith
 agreed-length None generation (file.Bytes g k capacity bytes) h = absurd (cc)
 agreed-length (Some life) generation (file.Bytes g k capacity bytes) h = leb-true (length bytes) capacity (and-second _ (nat_le (length bytes) capacity) h)
 
--- what becomes of a file is that of what it lies on
-abbrev pub Ends : Backing → End → Type 0
-Ends b end.Nothing = Unit {0}
-Ends b (end.Spare volume cell) = Unit {0}
-Ends b (end.Kept volume cell) = b ≡ backing.Cell volume cell
-Ends b (end.Device device) = Unit {0}
-
-ended-home : (v : WorldState) (n : Namespace) (row : ℕ) (ending : End) → Ends (backing_of (life_at n row)) ending → Agrees v n →
+ended-home : (v : WorldState) (n : Namespace) (row : ℕ) (ending : End) → MayEnd n row ending → FilesAgree v n →
     (w d : ℕ) → length (cell_bytes (homes_after_end v.homes (file_at v row) ending) w d) ≤ cell_capacity v.namespace w d
 ended-home v n row end.Nothing e a = a.home
 ended-home v n row (end.Spare volume cell) e a = a.home
 ended-home v n row (end.Device device) e a = a.home
 ended-home v n row (end.Kept volume cell) e a =
-    let fits = a.live row volume cell e in
+    let fits = a.live row volume cell e.0 in
     let within = agreed-length (life_at n row) (generation_at n row) (file_at v row) (a.agree row) in
     home-set v volume cell (bytes_of (file_at v row)) (omega (arith, fits, within)) a.home
 
 -- a row is freed in both
-pub free-agrees : (v : WorldState) (n : Namespace) (row : ℕ) (ending : End) → row - 1 < 1024 → length n.live_files ≡ 1024 → Ends (backing_of (life_at n row)) ending →
-    Agrees v n → Agrees (change_row v (change.Free (file_of n row) ending)) (with_life n row None n.generations)
-free-agrees v n row ending l live_files e a =
+free-files : (v : WorldState) (n : Namespace) (row : ℕ) (ending : End) → row - 1 < 1024 → length n.live_files ≡ 1024 → MayEnd n row ending →
+    FilesAgree v n → FilesAgree (change_row v (change.Free (file_of n row) ending)) (with_life n row None n.generations)
+free-files v n row ending l live_files e a =
     let f = file.Unbound (generation_at n row) in
     let in_files : row - 1 < length v.files = subst (λ x. row - 1 < x) (sym a.files) l in
     let in_live_files : row - 1 < length n.live_files = subst (λ x. row - 1 < x) (sym live_files) l in
@@ -244,3 +290,10 @@ free-agrees v n row ending l live_files e a =
     freed-agrees other (inr x) =
         ap (λ y. agrees y (generation_at n other) (slice_index_or (slice_set v.files (row - 1) (file.Unbound (generation_at n row))) (other - 1) (file.Unbound 0))) (set-there n.live_files (row - 1) (other - 1) None None x)
         ∙ ap (agrees (life_at n other) (generation_at n other)) (set-there v.files (row - 1) (other - 1) (file.Unbound (generation_at n row)) (file.Unbound 0) x) ∙ a.agree other
+
+pub free-agrees : (v : WorldState) (n : Namespace) (row : ℕ) (ending : End) → row - 1 < 1024 → length n.live_files ≡ 1024 → MayEnd n row ending →
+    Agrees v n → Agrees (change_row v (change.Free (file_of n row) ending)) (after_end (with_life n row None n.generations) ending)
+free-agrees v n row ending l live_files e a = record {
+  files = files-ended (change_row v (change.Free (file_of n row) ending)) (with_life n row None n.generations) ending (free-files v n row ending l live_files e a.files);
+  homes = home-ended v.homes n row (file_at v row) ending (subst (λ x. row - 1 < x) (sym live_files) l) e a.homes;
+}

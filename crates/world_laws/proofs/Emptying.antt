@@ -16,13 +16,15 @@ use Rattle.vfs_model.specs.declared.namespace.Namespace.{Namespace}
 use Rattle.vfs_model.specs.declared.namespace.RowChange.{RowChange}
 use Rattle.vfs_model.specs.declared.namespace.RowChange.TheVariants as change
 use Rattle.vfs_model.specs.declared.world.WorldState.{WorldState}
-use Rattle.world_laws.proofs.Agreeing.{Agrees, Ends, agrees-ended, free-agrees}
+use Rattle.world_laws.proofs.Agreeing.{Agrees, free-agrees}
+use Rattle.world_laws.proofs.AtHome.{IsAlone, MayEnd, no-cell}
 use Rattle.world_laws.proofs.Beside.{working_directories-beside}
-use Rattle.world_laws.proofs.Binding.{Rest, out-here, out-other, rest-beside}
+use Rattle.world_laws.proofs.Binding.{Rest, out-here, out-other, own-cell, rest-beside}
+use Rattle.world_laws.proofs.Counting.{count-place}
 use Rattle.world_laws.proofs.Freeing.{alive-freed, backed-by, cells-freed, devices-freed, without_life}
-use Rattle.world_laws.proofs.Lists.{number-itself, other-number, same-number, same-or-other, set-here, set-there}
+use Rattle.world_laws.proofs.Lists.{number-itself, other-number, same-number, same-or-other, set-here, set-there, some-within}
 use Rattle.world_laws.proofs.Standing.{Held, IsUsed, Linked, LinkedIn}
-use Rattle.world_laws.proofs.Taking.{BoxesBut, DevicesPlaced, but-device, but-life}
+use Rattle.world_laws.proofs.Taking.{BoxesBut, DevicesPlaced, but-device, but-life, count-set}
 
 -- a row is one of the list
 abbrev pub InRows : List ℕ → ℕ → Type 0
@@ -51,6 +53,9 @@ pub record Empty (number : ℕ) (m : Namespace) (left : List ℕ) : Type 0 where
   -- its volume keeps the files already, so the cells of those that are left are counted twice
   pub cells : (volume cell : ℕ) → volume < length m.volumes → cell < length (volume_at m volume).pages →
       cell_files m volume cell + one_if (slice_index_or (volume_at m volume).spare cell false) ≡ 1 + twice m volume cell left
+  -- but by one live file at most
+  pub lone : (volume cell : ℕ) → volume < length m.volumes → cell < length (volume_at m volume).pages →
+      count_by (is_backed_by (lies_on_cell volume cell)) m.live_files + one_if (slice_index_or (volume_at m volume).spare cell false) ≤ 1
   pub live_files : (row : ℕ) (life : LiveFile) → life_at m row ≡ Some life → life.mount ≢ number → IsSomeAnd (mount_numbered m life.mount) (λ mount. fits_mount m life mount ≡ true)
   -- each live file of the mount is left, and nothing names it
   pub whole : (row : ℕ) (life : LiveFile) → 0 < row → life_at m row ≡ Some life → life.mount ≡ number → InRows left row
@@ -230,6 +235,13 @@ empty-one number m row rows changes f =
           let spare = ap (λ vs. one_if (slice_index_or (slice_index_or vs volume no_volume).spare cell false)) alike.1 in
           let files = alike.0 in
           omega (arith, before, freed, one, backed, later, still, spare, files);
+      lone = λ volume cell v c.
+          let alike = ended-cells t b volume cell in
+          let before = f.lone volume cell (subst (λ vs. volume < length vs) alike.1 v) (subst (λ vs. cell < length (slice_index_or vs volume no_volume).pages) alike.1 c) in
+          let counted = count-set (is_backed_by (lies_on_cell volume cell)) m.live_files (row - 1) None None within in
+          let spare = ap (λ vs. one_if (slice_index_or (slice_index_or vs volume no_volume).spare cell false)) alike.1 in
+          let lives = ap (λ all. count_by (is_backed_by (lies_on_cell volume cell)) all) same.0 in
+          omega (arith, before, counted, spare, lives);
       live_files = live_files-beside-end t number b (λ other life h apart. live_files-before other life h apart (same-or-other (other - 1) (row - 1)));
       whole = λ other life l h e. whole-left other life l (subst (λ live_files. slice_index_or live_files (other - 1) None ≡ Some life) same.0 h) e (same-or-other (other - 1) (row - 1));
       rows = rows-left-beside number t b rows (still-left number m row rows left.0 left.3 left.4);
@@ -259,10 +271,42 @@ empty-one number m row rows changes f =
         later (inl same) = absurd (k (ap (λ x. x - 1) same))
         later (inr i) = i
 
-unmounted-ends : (b : Backing) → Ends b (end_of_unmounted b)
-unmounted-ends backing.Memory = tt
-unmounted-ends (backing.Cell volume cell) = refl
-unmounted-ends (backing.Device device) = tt
+-- a file on a cell is the only one there
+pub backed : (volume cell : ℕ) (found : Option LiveFile) → backing_of found ≡ backing.Cell volume cell → is_backed_by (lies_on_cell volume cell) found ≡ true
+backed volume cell None h = absurd (no-cell volume cell h)
+backed volume cell (Some life) h = ap (lies_on_cell volume cell) h ∙ own-cell volume cell
+
+pub live-within : (lives : List (Option LiveFile)) (place volume cell : ℕ) → backing_of (slice_index_or lives place None) ≡ backing.Cell volume cell → place < length lives
+live-within lives place volume cell h = by (slice_index_or lives place None) refl h
+  where
+    by : (found : Option LiveFile) → slice_index_or lives place None ≡ found → backing_of (slice_index_or lives place None) ≡ backing.Cell volume cell → place < length lives
+    by None e k = absurd (no-cell volume cell (sym (ap backing_of e) ∙ k))
+    by (Some life) e k = some-within lives place life e
+
+not-one : (b : Bool) → one_if b ≡ 0 → b ≡ false
+not-one true h = absurd (omega (arith, h))
+not-one false h = refl
+
+alone-of : (number : ℕ) (m : Namespace) (row : ℕ) (rows : List ℕ) (volume cell : ℕ) → Empty number m (row ∷ rows) → backing_of (life_at m row) ≡ backing.Cell volume cell → IsAlone m row volume cell
+alone-of number m row rows volume cell f e v c =
+    let within : row - 1 < length m.live_files = live-within m.live_files (row - 1) volume cell e in
+    let most = f.lone volume cell v c in
+    let counted = count-set (is_backed_by (lies_on_cell volume cell)) m.live_files (row - 1) None None within in
+    let was : one_if (is_backed_by (lies_on_cell volume cell) (life_at m row)) ≡ 1 = ap one_if (backed volume cell (life_at m row) e) in (
+      λ other apart h.
+          let inside : other - 1 < length (slice_set m.live_files (row - 1) None) =
+          subst (λ x. other - 1 < x) (sym (length-set m.live_files (row - 1) None)) (live-within m.live_files (other - 1) volume cell h) in
+          let still : is_backed_by (lies_on_cell volume cell) (slice_index_or (slice_set m.live_files (row - 1) None) (other - 1) None) ≡ true =
+          ap (is_backed_by (lies_on_cell volume cell)) (set-there m.live_files (row - 1) (other - 1) None None apart) ∙ backed volume cell (life_at m other) h in
+          let more = count-place (is_backed_by (lies_on_cell volume cell)) (slice_set m.live_files (row - 1) None) (other - 1) None inside still in
+          omega (arith, most, counted, was, more),
+      not-one (slice_index_or (volume_at m volume).spare cell false) (omega (arith, most, counted, was)),
+    )
+
+unmounted-ends : (number : ℕ) (m : Namespace) (row : ℕ) (rows : List ℕ) → Empty number m (row ∷ rows) → (b : Backing) → backing_of (life_at m row) ≡ b → MayEnd m row (end_of_unmounted b)
+unmounted-ends number m row rows f backing.Memory e = tt
+unmounted-ends number m row rows f (backing.Cell volume cell) e = (e, alone-of number m row rows volume cell f e)
+unmounted-ends number m row rows f (backing.Device device) e = tt
 
 ended-pages : (m : Namespace) (b : Backing) (volume cell : ℕ) → cell_capacity (after_end m (end_of_unmounted b)) volume cell ≡ cell_capacity m volume cell
 ended-pages m backing.Memory volume cell = refl
@@ -288,5 +332,5 @@ empty-all (row ∷ rows) number m changes f =
       empty = later.empty;
       pages = λ volume cell. later.pages volume cell ∙ ended-pages (without_life m row) b volume cell;
       files = λ v a. later.files v (subst (λ w. Agrees w next) (sym (fold-append change_row v changes (change.Free (file_of m row) (end_of_unmounted b) ∷ [])))
-          (agrees-ended _ (without_life m row) (end_of_unmounted b) (free-agrees (fold change_row v changes) m row (end_of_unmounted b) f.rows.1 f.rest.sizes.live_files (unmounted-ends b) a)));
+          (free-agrees (fold change_row v changes) m row (end_of_unmounted b) f.rows.1 f.rest.sizes.live_files (unmounted-ends number m row rows f b refl) a));
     }

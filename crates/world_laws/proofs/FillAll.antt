@@ -24,7 +24,7 @@ use Rattle.vfs_model.specs.declared.namespace.RowChange.TheVariants as change
 use Rattle.vfs_model.specs.declared.world.WorldState.{WorldState}
 use Rattle.world_laws.proofs.Agreeing.{Agrees, bind-agrees}
 use Rattle.world_laws.proofs.Binding.{next_generations}
-use Rattle.world_laws.proofs.Filling.{Fill, begins-fit, fill-file, fill-folder, life_of, not-behind}
+use Rattle.world_laws.proofs.Filling.{Fill, begins-fit, begins-new, fill-file, fill-folder, life_of, not-behind}
 use Rattle.world_laws.proofs.FreeRows.{some-free}
 use Rattle.world_laws.proofs.Growing.{tree-own}
 use Rattle.world_laws.proofs.OpenKeeping.{taken-pages}
@@ -127,7 +127,7 @@ module _ (mount : Mount) where
         pages = λ volume cell. later.pages volume cell ∙ taken-pages (with_life m row (Some (life_of mount begins)) (next_generations m row)) (life_of mount begins).backing volume cell;
         files = λ v a. subst (λ r. Agrees (fold change_row v (fold adds r left).changes) later.last) (sym rows)
             (later.files v (subst (λ w. Agrees w bound) (sym (fold-append change_row v changes (change.Bind (next_file m row) begins ∷ [])))
-            (bind-agrees (fold change_row v changes) m row (life_of mount begins) begins free.small f.rest.sizes.live_files f.rest.sizes.generations (begins-fit mount m p begins f.fit.0) a)));
+            (bind-agrees (fold change_row v changes) m row (life_of mount begins) begins free.small f.rest.sizes.live_files f.rest.sizes.generations (begins-fit mount m p begins f.fit.0) (begins-new mount m p begins f.fit.0) a)));
         shown = λ v e s.
             let now = fold change_row v changes in
             let more = shown-file now m tree (kind_of mount.fs) behind p begins row (life_of mount begins) (not-behind mount p (Some begins) behind left f.order) free

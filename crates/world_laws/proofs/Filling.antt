@@ -29,7 +29,7 @@ use Rattle.vfs_model.specs.declared.namespace.Mount.{Mount}
 use Rattle.vfs_model.specs.declared.namespace.Namespace.{Namespace}
 use Rattle.vfs_model.specs.declared.namespace.Origin.{Origin}
 use Rattle.vfs_model.specs.declared.namespace.Origin.TheVariants as origin
-use Rattle.world_laws.proofs.Agreeing.{Begins}
+use Rattle.world_laws.proofs.Agreeing.{Begins, IsNewSpare}
 use Rattle.world_laws.proofs.Beside.{working_directories-beside}
 use Rattle.world_laws.proofs.Binding.{Rest, alive-bound, apart-cell, but-taken, cells-bound, devices-same, devices-taken, live_files-set, live_files-taken, live-bound, next_generations, out-other, own-cell, rest-taken, some-life, this-or-other}
 use Rattle.world_laws.proofs.FreeRows.{free_count, one-less, some-free}
@@ -259,6 +259,14 @@ module _ (mount : Mount) where
   begins-fit m p (origin.Rom place path) f = (ap kind_of f, refl)
   begins-fit m p (origin.Cell volume cell) f = (ap kind_of f.0, refl)
   begins-fit m p (origin.Device device) f = (ap kind_of f.0, refl)
+
+  -- no file of a mount's content is made anew
+  pub begins-new : (m : Namespace) (p : Path) (begins : Origin) → FitsOrigin m p begins → IsNewSpare m begins
+  begins-new m p origin.Empty f = absurd f
+  begins-new m p (origin.NewCell volume cell) f = absurd f
+  begins-new m p (origin.Rom place path) f = tt
+  begins-new m p (origin.Cell volume cell) f = tt
+  begins-new m p (origin.Device device) f = tt
 
   kind-fits : (m : Namespace) (p : Path) (begins : Origin) → FitsOrigin m p begins → fits_kind (Some (life_of begins)) ≡ true
   kind-fits m p origin.Empty f = absurd f

@@ -1,5 +1,5 @@
 -- What a step keeps, and how chains of refusals tell it.
-use Rattle.std.proofs.Common.{◌≡◌, ℕ, ◌-◌, ◌*◌, ◌<◌, Bool, true, false, not, ◌||◌, Option, Some, None, is_some, IsSomeAnd, List, [], length, fold, slice_index_or, Result, Ok, Err, if◌then◌else◌, refl, ap, subst, ◌∙◌}
+use Rattle.std.proofs.Common.{◌≡◌, ℕ, ◌-◌, ◌*◌, ◌<◌, Bool, true, false, not, ◌||◌, Option, Some, None, is_some, IsSomeAnd, List, [], length, fold, slice_index_or, Result, Ok, Err, if◌then◌else◌, refl, sym, ap, subst, ◌∙◌}
 use Rattle.vfs_base.specs.declared.errno.Errno.{Errno}
 use Rattle.vfs_base.specs.declared.ids.FileId.{FileId}
 use Rattle.vfs_base.specs.declared.kinds.Kind.{Kind}
@@ -20,7 +20,8 @@ use Rattle.vfs_model.specs.declared.namespace.LiveFile.{LiveFile}
 use Rattle.vfs_model.specs.declared.namespace.Namespace.{Namespace}
 use Rattle.vfs_model.specs.declared.namespace.RowChange.{RowChange}
 use Rattle.vfs_model.specs.declared.world.WorldState.{WorldState}
-use Rattle.world_laws.proofs.Agreeing.{Agrees, Ends, agrees-beside, agrees-ended, free-agrees}
+use Rattle.world_laws.proofs.Agreeing.{Agrees, agrees-beside, free-agrees}
+use Rattle.world_laws.proofs.AtHome.{MayEnd}
 use Rattle.world_laws.proofs.Freeing.{unused-stands, without_life}
 use Rattle.world_laws.proofs.Lists.{some-within}
 use Rattle.world_laws.proofs.Standing.{Nothing, Only, Stands}
@@ -53,12 +54,13 @@ wanted-kept n errno None f h = tt
 pub same-kept : (n : Namespace) → Stands Nothing n → Keeps n n []
 same-kept n s = record { stands = s; pages = λ volume cell. refl; files = λ v a. a }
 
--- a step that changes neither lives nor volumes
-pub names-kept : (n next : Namespace) → Stands Nothing next → n.live_files ≡ next.live_files → n.generations ≡ next.generations → next.volumes ≡ n.volumes → Keeps n next []
-names-kept n next s live_files generations volumes = record {
+-- a step that changes neither lives nor volumes nor devices
+pub names-kept : (n next : Namespace) → Stands Nothing next → n.live_files ≡ next.live_files → n.generations ≡ next.generations → n.volumes ≡ next.volumes →
+    n.devices ≡ next.devices → Keeps n next []
+names-kept n next s live_files generations volumes devices = record {
   stands = s;
-  pages = λ volume cell. ap (λ all. cell_capacity (record n { volumes = all }) volume cell) volumes;
-  files = λ v a. agrees-beside v n next live_files generations a;
+  pages = λ volume cell. ap (λ all. cell_capacity (record n { volumes = all }) volume cell) (sym volumes);
+  files = λ v a. agrees-beside v n next live_files generations volumes devices a;
 }
 
 -- the row of a live file is one of the list
@@ -75,10 +77,10 @@ end-pages m (end.Spare v c) volume cell = ap (λ pages. 4096 * slice_index_or pa
 end-pages m (end.Kept v c) volume cell = refl
 end-pages m (end.Device device) volume cell = refl
 
-pub dropped-ends : (b : Backing) → Ends b (end_of_dropped b)
-dropped-ends backing.Memory = tt
-dropped-ends (backing.Cell volume cell) = tt
-dropped-ends (backing.Device device) = tt
+pub dropped-ends : (n : Namespace) (row : ℕ) (b : Backing) → backing_of (life_at n row) ≡ b → MayEnd n row (end_of_dropped b)
+dropped-ends n row backing.Memory e = tt
+dropped-ends n row (backing.Cell volume cell) e = e
+dropped-ends n row (backing.Device device) e = tt
 
 drop-files : (m : Namespace) (row : ℕ) (named : Bool) → row - 1 < 1024 → length m.live_files ≡ 1024 → (v : WorldState) → Agrees v m →
     let rows = if named then record { next = m; changes = [] } else free_row end_of_dropped (record { next = m; changes = [] }) row in
@@ -86,7 +88,7 @@ drop-files : (m : Namespace) (row : ℕ) (named : Bool) → row - 1 < 1024 → l
 unfolding free_row
 drop-files m row true l e v a = a
 drop-files m row false l e v a =
-    agrees-ended _ (without_life m row) (end_of_dropped (backing_of (life_at m row))) (free-agrees v m row (end_of_dropped (backing_of (life_at m row))) l e (dropped-ends (backing_of (life_at m row))) a)
+    free-agrees v m row (end_of_dropped (backing_of (life_at m row))) l e (dropped-ends m row (backing_of (life_at m row)) refl) a
 
 drop-pages : (m : Namespace) (row : ℕ) (named : Bool) (volume cell : ℕ) →
     cell_capacity (if named then record { next = m; changes = [] } else free_row end_of_dropped (record { next = m; changes = [] }) row).next volume cell ≡ cell_capacity m volume cell
@@ -95,13 +97,13 @@ drop-pages m row true volume cell = refl
 drop-pages m row false volume cell = end-pages (without_life m row) (end_of_dropped (backing_of (life_at m row))) volume cell
 
 -- a name or a reference of a row's file has gone, and the file is freed where nothing names it any more
-pub lost-kept : (n m : Namespace) (row : ℕ) → 0 < row → row - 1 < 1024 → Stands (Only row) m → n.live_files ≡ m.live_files → n.generations ≡ m.generations → m.volumes ≡ n.volumes →
-    Keeps n (free_if_unused m row).next (free_if_unused m row).changes
+pub lost-kept : (n m : Namespace) (row : ℕ) → 0 < row → row - 1 < 1024 → Stands (Only row) m → n.live_files ≡ m.live_files → n.generations ≡ m.generations → n.volumes ≡ m.volumes →
+    n.devices ≡ m.devices → Keeps n (free_if_unused m row).next (free_if_unused m row).changes
 unfolding free_if_unused
-lost-kept n m row l small s live_files generations volumes = record {
+lost-kept n m row l small s live_files generations volumes devices = record {
   stands = unused-stands m row l small s;
-  pages = λ volume cell. drop-pages m row (is_linked m row || is_held m row) volume cell ∙ ap (λ all. cell_capacity (record n { volumes = all }) volume cell) volumes;
-  files = λ v a. drop-files m row (is_linked m row || is_held m row) small s.sizes.live_files v (agrees-beside v n m live_files generations a);
+  pages = λ volume cell. drop-pages m row (is_linked m row || is_held m row) volume cell ∙ ap (λ all. cell_capacity (record n { volumes = all }) volume cell) (sym volumes);
+  files = λ v a. drop-files m row (is_linked m row || is_held m row) small s.sizes.live_files v (agrees-beside v n m live_files generations volumes devices a);
 }
 
 -- what is there and no file is a folder

@@ -11,81 +11,11 @@ use Rattle.vfs_model.specs.Namespace.{life_at}
 use Rattle.vfs_model.specs.UmountSteps.{is_of_mount}
 use Rattle.vfs_model.specs.declared.namespace.LiveFile.{LiveFile}
 use Rattle.vfs_model.specs.declared.namespace.Namespace.{Namespace}
+use Rattle.world_laws.proofs.Counting.{count-place, none-count}
 use Rattle.world_laws.proofs.Emptying.{AllAbove, InRows, RowsLeft}
 use Rattle.world_laws.proofs.Lists.{any-node, below-none, below-or-past, first-there, later-there, nor-first, nor-second, place-any, same-or-other, set-there, t-first, t-second, true-or-false}
 use Rattle.world_laws.proofs.MountKeeping.{counted-place}
 use Rattle.world_laws.proofs.Taking.{count-set}
-
--- where an item that a filter keeps stood
-abbrev pub place_step : Bool → ℕ → (ℕ → ℕ) → ℕ
-place_step true zero later = 0
-place_step true (suc place) later = suc (later place)
-place_step false place later = suc (later place)
-
-abbrev pub kept_place : {X : Type 0} → (X → Bool) → List X → ℕ → ℕ
-kept_place test [] place = place
-kept_place test (x ∷ xs) place = place_step (test x) place (kept_place test xs)
-
-step-within : {X : Type 0} (x : X) (xs left : List X) (b : Bool) (later : ℕ → ℕ) (place : ℕ) (d : X) →
-    ((at : ℕ) → at < length left → (later at < length xs) × (slice_index_or left at d ≡ slice_index_or xs (later at) d)) → place < length (if b then x ∷ left else left) →
-    (place_step b place later < length (x ∷ xs)) × (slice_index_or (if b then x ∷ left else left) place d ≡ slice_index_or (x ∷ xs) (place_step b place later) d)
-step-within x xs left true later zero d h l = (omega arith, refl)
-step-within x xs left true later (suc place) d h l = let next = h place (omega (arith, l)) in (omega (arith, next), next.1)
-step-within x xs left false later place d h l = let next = h place l in (omega (arith, next), next.1)
-
-pub kept-within : {X : Type 0} (test : X → Bool) (xs : List X) (place : ℕ) (d : X) → place < length (filter test xs) →
-    (kept_place test xs place < length xs) × (slice_index_or (filter test xs) place d ≡ slice_index_or xs (kept_place test xs place) d)
-kept-within test [] place d l = absurd (omega (arith, l))
-kept-within test (x ∷ xs) place d l = step-within x xs (filter test xs) (test x) (kept_place test xs) place d (λ at m. kept-within test xs at d m) l
-
-step-rising : {X : Type 0} (x : X) (left : List X) (b : Bool) (later : ℕ → ℕ) (place other : ℕ) → ((at to : ℕ) → at < to → to < length left → later at < later to) →
-    place < other → other < length (if b then x ∷ left else left) → place_step b place later < place_step b other later
-step-rising x left true later zero zero h l m = absurd (omega (arith, l))
-step-rising x left true later zero (suc other) h l m = omega arith
-step-rising x left true later (suc place) zero h l m = absurd (omega (arith, l))
-step-rising x left true later (suc place) (suc other) h l m = let next = h place other (omega (arith, l)) (omega (arith, m)) in omega (arith, next)
-step-rising x left false later place other h l m = let next = h place other l m in omega (arith, next)
-
-pub kept-rising : {X : Type 0} (test : X → Bool) (xs : List X) (place other : ℕ) → place < other → other < length (filter test xs) → kept_place test xs place < kept_place test xs other
-kept-rising test [] place other l m = absurd (omega (arith, m))
-kept-rising test (x ∷ xs) place other l m = step-rising x (filter test xs) (test x) (kept_place test xs) place other (kept-rising test xs) l m
-
--- items that stood at one place are at one place
-pub kept-apart : {X : Type 0} (test : X → Bool) (xs : List X) (place other : ℕ) → place < length (filter test xs) → other < length (filter test xs) →
-    kept_place test xs place ≡ kept_place test xs other → place ≡ other
-kept-apart test xs place other l m e = elim (below-or-past place other) [
-  | inl less ↦ let rising = kept-rising test xs place other less m in absurd (omega (arith, rising, e))
-  | inr past ↦ elim (below-or-past other place) [
-    | inl less ↦ let rising = kept-rising test xs other place less l in absurd (omega (arith, rising, e))
-    | inr also ↦ omega (arith, past, also)
-  ]
-]
-
--- a test fails of all where the count is 0
-pub none-count : {X : Type 0} (p : X → Bool) (xs : List X) → list_any p xs ≡ false → count_by p xs ≡ 0
-none-count p [] h = refl
-none-count p (x ∷ xs) h =
-    let one : count_by p (x ∷ xs) ≡ one_if (p x) + count_by p xs = sum_by-cons (λ y. one_if (p y)) x xs in
-    let first : one_if (p x) ≡ 0 = ap one_if (nor-first (p x) (list_any p xs) h) in
-    let later = none-count p xs (nor-second (p x) (list_any p xs) h) in
-    omega (arith, one, first, later)
-
-count-first : {X : Type 0} (p : X → Bool) (x : X) (xs : List X) (b : Bool) → p x ≡ b → (b || list_any p xs) ≡ true → (list_any p xs ≡ true → 0 < count_by p xs) → 0 < count_by p (x ∷ xs)
-count-first p x xs true e h later =
-    let one : count_by p (x ∷ xs) ≡ one_if (p x) + count_by p xs = sum_by-cons (λ y. one_if (p y)) x xs in
-    let first : one_if (p x) ≡ 1 = ap one_if e in
-    omega (arith, one, first)
-count-first p x xs false e h later =
-    let one : count_by p (x ∷ xs) ≡ one_if (p x) + count_by p xs = sum_by-cons (λ y. one_if (p y)) x xs in
-    let more = later h in
-    omega (arith, one, more)
-
-pub some-count : {X : Type 0} (p : X → Bool) (xs : List X) → list_any p xs ≡ true → 0 < count_by p xs
-some-count p [] h = absurd (cc)
-some-count p (x ∷ xs) h = count-first p x xs (p x) refl h (some-count p xs)
-
-pub count-place : {X : Type 0} (p : X → Bool) (xs : List X) (place : ℕ) (d : X) → place < length xs → p (slice_index_or xs place d) ≡ true → 0 < count_by p xs
-count-place p xs place d l h = some-count p xs (place-any p xs place d l h)
 
 pub count-any : {X : Type 0} (p : X → Bool) (xs : List X) (d : X) → 0 < count_by p xs → list_any p xs ≡ true
 count-any p xs d l = let at = counted-place p xs d l in place-any p xs at.place d at.within at.holds

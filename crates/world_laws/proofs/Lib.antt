@@ -1,15 +1,18 @@
 pub mod Adding
 pub mod Agreeing
+pub mod AtHome
 pub mod Beside
 pub mod Binding
 pub mod Clear
 pub mod Contents
+pub mod Counting
 pub mod Covering
 pub mod Emptying
 pub mod FileKeeping
 pub mod FileKeepingSteps
 pub mod FillAll
 pub mod Filling
+pub mod Filters
 pub mod FreeRows
 pub mod Freeing
 pub mod Growing
@@ -37,6 +40,7 @@ pub mod Vacating
 pub mod MountRemoval
 pub mod UmountKeeping
 pub mod MkfsKeeping
+pub mod HomesKeeping
 pub mod RootRemoval
 pub mod Resting
 pub mod ShutdownKeeping

@@ -24,7 +24,7 @@ use Rattle.vfs_model.specs.declared.namespace.Namespace.{Namespace}
 use Rattle.world_laws.proofs.Agreeing.{agrees-beside}
 use Rattle.world_laws.proofs.Binding.{rest-beside, rest-of, rest-stands}
 use Rattle.world_laws.proofs.Keeping.{Kept, then-kept}
-use Rattle.world_laws.proofs.Leaving.{none-count}
+use Rattle.world_laws.proofs.Counting.{none-count}
 use Rattle.world_laws.proofs.Lists.{any-place, place-any, same-number, same-or-other, set-here, set-there, true-or-false}
 use Rattle.world_laws.proofs.Passing.{and-both, and-first, and-second, refuse-passed}
 use Rattle.world_laws.proofs.Standing.{Nothing, Stands}
@@ -77,7 +77,7 @@ module _ (n : Namespace) (name : List ℕ) (s : Stands Nothing n) (off : is_moun
   abbrev blank_spare : List Bool
   blank_spare = replicate (length (volume_at n place).pages) true
 
-  format-pages : (u : ℕ) → (volume_at (format_volume n (volume_named n name)) u).pages ≡ (volume_at n u).pages
+  pub format-pages : (u : ℕ) → (volume_at (format_volume n (volume_named n name)) u).pages ≡ (volume_at n u).pages
   format-pages u =
       set-at (λ v. v.pages ≡ (volume_at n u).pages) n.volumes (volume_named n name) u (record (volume_at n (volume_named n name)) { spare = replicate (length (volume_at n (volume_named n name)).pages) true; kept = [] }) no_volume
       (λ e. ap (λ k. (volume_at n k).pages) (sym e)) refl
@@ -87,7 +87,7 @@ module _ (n : Namespace) (name : List ℕ) (s : Stands Nothing n) (off : is_moun
       set-at (λ v. v.name ≡ (volume_at n u).name) n.volumes (volume_named n name) u (record (volume_at n (volume_named n name)) { spare = replicate (length (volume_at n (volume_named n name)).pages) true; kept = [] }) no_volume
       (λ e. ap (λ k. (volume_at n k).name) (sym e)) refl
 
-  format-named : (word : List ℕ) → volume_named (format_volume n (volume_named n name)) word ≡ volume_named n word
+  pub format-named : (word : List ℕ) → volume_named (format_volume n (volume_named n name)) word ≡ volume_named n word
   format-named word =
       position_or_len-set (λ v. same_bytes v.name word) n.volumes (volume_named n name) (record (volume_at n (volume_named n name)) { spare = replicate (length (volume_at n (volume_named n name)).pages) true; kept = [] }) no_volume refl
 
@@ -146,7 +146,7 @@ module _ (n : Namespace) (name : List ℕ) (s : Stands Nothing n) (off : is_moun
             omega (arith, kept, spare, live_files, none)
       ]
 
-  format-stands : Stands Nothing (format_volume n (volume_named n name))
+  pub format-stands : Stands Nothing (format_volume n (volume_named n name))
   format-stands =
       rest-stands Nothing (format_volume n (volume_named n name)) (rest-beside Nothing n (format_volume n (volume_named n name)).volumes n.devices (rest-of Nothing n s))
       (record {
@@ -171,15 +171,3 @@ module _ (n : Namespace) (name : List ℕ) (s : Stands Nothing n) (off : is_moun
           ]
         ];
       }) format-live_files
-
-pub mkfs-kept : (n : Namespace) (name : List ℕ) → Stands Nothing n → Kept n (mkfs_step n name)
-unfolding mkfs_step
-mkfs-kept n name s =
-    then-kept n (refuse errno.ENXIO when (not (list_any (λ volume. same_bytes volume.name name) n.volumes))) _ (λ there.
-    then-kept n (refuse errno.EBUSY when (is_mounted n fs.Cell name)) _ (λ h.
-    let off = refuse-passed errno.EBUSY (is_mounted n fs.Cell name) h in
-    record {
-      stands = format-stands n name s off;
-      pages = λ volume cell. ap (λ pages. 4096 * slice_index_or pages cell 0) (format-pages n name s off volume);
-      files = λ v a. agrees-beside v n (format_volume n (volume_named n name)) refl refl a;
-    }))

@@ -21,6 +21,7 @@ use Rattle.vfs_model.proofs.NodeLaws.{other_mount}
 use Rattle.vfs_model.specs.Chain.{refuse◌when◌, refuse_by}
 use Rattle.vfs_model.specs.Consistency.{IsClosedTree, covered_mount}
 use Rattle.vfs_model.specs.Content.{Content, content_of, file_count, fs_type_of, same_type}
+use Rattle.vfs_model.specs.FileLife.{volume_named}
 use Rattle.vfs_model.specs.Homes.{cell_capacity, change_row}
 use Rattle.vfs_model.specs.Lookup.{asked_path, covering_mount, nearest, node_in, has_folder_within, has_mount_below, has_nodes, is_dir_node, is_file, is_point, is_prefix, is_there, node_at, walk_refusal, with_tree}
 use Rattle.vfs_model.specs.Laws.{with_mount}
@@ -32,7 +33,7 @@ use Rattle.vfs_model.specs.OpenStep.{kind_of}
 use Rattle.vfs_model.specs.declared.namespace.Namespace.{Namespace}
 use Rattle.vfs_model.specs.declared.world.WorldState.{WorldState}
 use Rattle.world_laws.proofs.Adding.{MayMount, not-prefix, own-tree, placed, with_one}
-use Rattle.world_laws.proofs.Agreeing.{Agrees, agrees-beside}
+use Rattle.world_laws.proofs.Agreeing.{Agrees, agrees-beside, agrees-named}
 use Rattle.world_laws.proofs.Binding.{rest-stands}
 use Rattle.world_laws.proofs.Covering.{IsMount, covering-is, covers-prefix, one-number}
 use Rattle.world_laws.proofs.FillAll.{Filled, adds, fill-all}
@@ -233,15 +234,22 @@ module _ (n : Namespace) (mount : Mount) (s : Stands Nothing n) (may : MayMount 
       (subst (λ x. mount.number < x) (sym s.sizes.trees) may.small) (prefix-append mount.point p)
       ∙ ap (node_in (all.final)) (drop-append_seam mount.point p)
 
+  -- nor do the names that a volume kept
+  base-agrees : (f : FsType) (v : WorldState) → Agrees v n → Agrees v (without_kept (with_one n mount) f mount.source)
+  base-agrees fs.Tmp v a = agrees-beside v n (with_one n mount) refl refl refl refl a
+  base-agrees fs.Rom v a = agrees-beside v n (with_one n mount) refl refl refl refl a
+  base-agrees fs.Dev v a = agrees-beside v n (with_one n mount) refl refl refl refl a
+  base-agrees fs.Cell v a = agrees-named v (with_one n mount) (volume_named n mount.source) [] (agrees-beside v n (with_one n mount) refl refl refl refl a)
+
   pub added-kept : Keeps n (add_mount n mount).next (add_mount n mount).changes
   added-kept = record {
     stands = subst (Stands Nothing) (sym (ap (λ r. r.next) added ∙ all.is)) final-stands;
     pages = λ volume cell. ap (λ m. cell_capacity m volume cell) (ap (λ r. r.next) added ∙ all.is) ∙ all.pages volume cell ∙ begins.pages volume cell;
     files = λ v a.
         subst (λ m. Agrees (fold change_row v (add_mount n mount).changes) m) (sym (ap (λ r. r.next) added ∙ all.is))
-        (agrees-beside (fold change_row v (add_mount n mount).changes) (all.last) (with_tree (all.last) mount.number (all.final)) refl refl
+        (agrees-beside (fold change_row v (add_mount n mount).changes) (all.last) (with_tree (all.last) mount.number (all.final)) refl refl refl refl
         (subst (λ r. Agrees (fold change_row v r.changes) (all.last)) (sym added)
-        (all.files v (agrees-beside v n (without_kept (with_one n mount) mount.fs mount.source) (sym (base-same mount.fs).3) (sym (base-same mount.fs).4) a))));
+        (all.files v (base-agrees mount.fs v a))));
   }
 
 -- the least number that no mount has

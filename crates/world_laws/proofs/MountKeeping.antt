@@ -14,8 +14,8 @@ use Rattle.vfs_base.specs.declared.kinds.FsType.{FsType}
 use Rattle.vfs_base.specs.declared.kinds.FsType.TheVariants as fs
 use Rattle.vfs_base.specs.declared.kinds.Kind.{Kind}
 use Rattle.vfs_base.specs.declared.kinds.Kind.TheVariants as kind
-use Rattle.vfs_model.specs.Boxes.{cell_files, is_backed_by, is_kept_dir, is_kept_on, lies_on_cell, lies_on_device, one_if, fits_kind}
-use Rattle.vfs_model.specs.Consistency.{IsClosedTree, LivesFit, fits_mount, mount_numbered, same_kind, kind_number}
+use Rattle.vfs_model.specs.Boxes.{cell_files, is_backed_by, is_cell_mount, is_kept_dir, is_kept_on, lies_on_cell, lies_on_device, one_if, fits_kind}
+use Rattle.vfs_model.specs.Consistency.{IsClosedTree, LivesFit, fits_mount, mount_numbered, same_kind}
 use Rattle.vfs_model.specs.Content.{Content, content_of, device_content, file_count, is_mounted, kept_origin, no_rom, rom_at, rom_origin, same_type}
 use Rattle.vfs_model.specs.FileLife.{free_rows, no_device, no_volume, volume_at, volume_named, with_kept}
 use Rattle.vfs_model.specs.Homes.{cell_capacity}
@@ -38,11 +38,12 @@ use Rattle.world_laws.proofs.Adding.{MayMount, placed, one-live_files, one-rest,
 use Rattle.world_laws.proofs.Binding.{Rest, rest-beside}
 use Rattle.world_laws.proofs.Contents.{AllDevices, IsDevice, IsTree, device-content, empty-tree, kept-tree, rom-tree}
 use Rattle.world_laws.proofs.Filling.{AllFit, Fill, Fits, InTree, begins_on, content_shape, pending}
+use Rattle.world_laws.proofs.Filters.{PassingDiffer}
 use Rattle.world_laws.proofs.FreeRows.{free_count, rows-length}
 use Rattle.world_laws.proofs.Lists.{AnyPlace, any-later, below-or-past, no-place, nor-first, nor-second, number-itself, or-either, or-first, or-second, same-or-other, same-some, set-here, set-there, equal-is, other-number, true-or-false}
 use Rattle.world_laws.proofs.Passing.{and-both, and-first, and-second}
 use Rattle.world_laws.proofs.Standing.{IsUsed, Nothing, Stands}
-use Rattle.world_laws.proofs.Taking.{BoxesBut, set-at}
+use Rattle.world_laws.proofs.Taking.{BoxesBut, boxes-but, set-at}
 
 -- one of a list passes where the count isn't 0
 counted-cons : {X : Type 0} (p : X → Bool) (x : X) (xs : List X) (d : X) (b : Bool) → p x ≡ b → 0 < one_if b + count_by p xs → (0 < count_by p xs → AnyPlace p xs d) → AnyPlace p (x ∷ xs) d
@@ -73,9 +74,9 @@ same-kind-is kind.Chr kind.Rom h = absurd (cc)
 same-kind-is kind.Chr kind.Cell h = absurd (cc)
 
 chr-is-dev : (f : FsType) → kind.Chr ≡ kind_of f → f ≡ fs.Dev
-chr-is-dev fs.Tmp e = absurd (omega (arith, ap kind_number e))
-chr-is-dev fs.Rom e = absurd (omega (arith, ap kind_number e))
-chr-is-dev fs.Cell e = absurd (omega (arith, ap kind_number e))
+chr-is-dev fs.Tmp e = absurd (cc)
+chr-is-dev fs.Rom e = absurd (cc)
+chr-is-dev fs.Cell e = absurd (cc)
 chr-is-dev fs.Dev e = refl
 
 -- a life that has a device is a character device's
@@ -242,12 +243,10 @@ module _ (n : Namespace) (mount : Mount) (s : Stands Nothing n) (may : MayMount 
       (ap (λ w. same_bytes w mount.source) e ∙ (bytes_decides mount.source mount.source).1 refl) in
       absurd (cc)
 
-  apart-sources : (place other : ℕ) (d : Mount) → place < length (all_mounts (with_one n mount)) → other < length (all_mounts (with_one n mount)) →
-      same_type (slice_index_or (all_mounts (with_one n mount)) place d).fs fs.Cell ≡ true → same_type (slice_index_or (all_mounts (with_one n mount)) other d).fs fs.Cell ≡ true →
-      (slice_index_or (all_mounts (with_one n mount)) place d).source ≡ (slice_index_or (all_mounts (with_one n mount)) other d).source → place ≡ other
+  apart-sources : PassingDiffer is_cell_mount (λ m. m.source) (all_mounts (with_one n mount))
   apart-sources place other d l m k j e = elim (placed (all_mounts n) mount place d l).is [
     | inl x ↦ elim (placed (all_mounts n) mount other d m).is [
-      | inl y ↦ s.boxes.sources_differ place other d x.0 y.0 (sym (ap (λ z. same_type z.fs fs.Cell) x.1) ∙ k) (sym (ap (λ z. same_type z.fs fs.Cell) y.1) ∙ j)
+      | inl y ↦ (boxes-but n s.boxes).sources_differ place other d x.0 y.0 (sym (ap (λ z. same_type z.fs fs.Cell) x.1) ∙ k) (sym (ap (λ z. same_type z.fs fs.Cell) y.1) ∙ j)
           (sym (ap (λ z. z.source) x.1) ∙ e ∙ ap (λ z. z.source) y.1)
       | inr y ↦ absurd (old-source place d x.0 (sym (ap (λ z. same_type z.fs fs.Cell) x.1) ∙ k) (sym (ap (λ z. same_type z.fs fs.Cell) y.1) ∙ j)
           (sym (ap (λ z. z.source) x.1) ∙ e ∙ ap (λ z. z.source) y.1))

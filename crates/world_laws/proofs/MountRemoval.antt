@@ -3,7 +3,7 @@ use Rattle.std.proofs.Common.{◌≡◌, ℕ, zero, suc, ◌-◌, ◌*◌, ◌<�
 use Rattle.vfs_base.specs.declared.kinds.FsType.{FsType}
 use Rattle.vfs_base.specs.declared.kinds.FsType.TheVariants as fs
 use Rattle.vfs_model.specs.Consistency.{fits_mount, mount_numbered}
-use Rattle.vfs_model.specs.FileLife.{Rows, after_end, backing_of, end_of_unmounted, free_row, no_volume, volume_at, volume_named}
+use Rattle.vfs_model.specs.FileLife.{Rows, after_end, backing_of, end_of_unmounted, free_row, no_volume, volume_at, volume_named, with_kept}
 use Rattle.vfs_model.specs.Homes.{cell_capacity, change_row}
 use Rattle.vfs_model.specs.Lookup.{with_tree}
 use Rattle.vfs_model.specs.Namespace.{life_at, tree_of}
@@ -15,7 +15,7 @@ use Rattle.vfs_model.specs.declared.namespace.Mount.{Mount}
 use Rattle.vfs_model.specs.declared.namespace.Namespace.{Namespace}
 use Rattle.vfs_model.specs.declared.namespace.RowChange.{RowChange}
 use Rattle.vfs_model.specs.declared.world.WorldState.{WorldState}
-use Rattle.world_laws.proofs.Agreeing.{Agrees, agrees-beside}
+use Rattle.world_laws.proofs.Agreeing.{Agrees, agrees-beside, agrees-named}
 use Rattle.world_laws.proofs.Binding.{rest-stands}
 use Rattle.world_laws.proofs.Emptying.{Empty, empty-all}
 use Rattle.world_laws.proofs.Lists.{same-or-other}
@@ -132,6 +132,16 @@ left-pages n mount fs.Cell volume cell = ap (λ pages. 4096 * slice_index_or pag
         (record (volume_at n (volume_named n mount.source)) { kept = map (λ entry. (entry.0, kept_node n entry.1)) (tree_of n mount.number) }) no_volume
         (λ e. ap (λ k. (volume_at n k).pages) (sym e)) refl
 
+-- the names that a volume keeps change nothing that agrees
+left-agrees : (v : WorldState) (n : Namespace) (mount : Mount) (f : FsType) → Agrees v n → Agrees v (left_by n mount f)
+left-agrees v n mount fs.Tmp a = agrees-beside v n (left_by n mount fs.Tmp) refl refl refl refl a
+left-agrees v n mount fs.Rom a = agrees-beside v n (left_by n mount fs.Rom) refl refl refl refl a
+left-agrees v n mount fs.Dev a = agrees-beside v n (left_by n mount fs.Dev) refl refl refl refl a
+left-agrees v n mount fs.Cell a =
+    let named = with_kept n (volume_named n mount.source) (map (λ entry. (entry.0, kept_node n entry.1)) (tree_of n mount.number)) in
+    agrees-beside v named (left_by n mount fs.Cell) refl refl refl refl
+    (agrees-named v n (volume_named n mount.source) (map (λ entry. (entry.0, kept_node n entry.1)) (tree_of n mount.number)) a)
+
 pub removal : (n : Namespace) (mount : Mount) (changes : List RowChange) → Stands Nothing n → MayLeave n mount → Removed n mount changes (remove_mount (record { next = n; changes = changes }) mount)
 removal n mount changes s may =
     subst (Removed n mount changes) (sym (removed n mount changes))
@@ -141,7 +151,7 @@ removal n mount changes s may =
     record {
       stands = emptied-stands mount.number _ all.empty;
       pages = λ volume cell. all.pages volume cell ∙ left-pages n mount mount.fs volume cell;
-      files = λ v a. all.files v (agrees-beside (fold change_row v changes) n (left_by n mount mount.fs) (sym same.0) (sym same.1) a);
+      files = λ v a. all.files v (left-agrees (fold change_row v changes) n mount mount.fs a);
       references = beside.references ∙ same.2;
       working_directories = beside.working_directories ∙ same.3;
       root = beside.root ∙ same.6;

@@ -272,12 +272,12 @@ module _ (n : Namespace) (old new : Path) (s : Stands Nothing n) (p : Passed n o
   -- the move, by what stands at new
   moved-kept : (found : Option NodeKind) → node_at n new ≡ found → Kept n (done (after_loss (with_moved n old new) found))
   unfolding with_moved
-  moved-kept None e = names-kept n (with_moved n old new) (moves-stands n old new s may (λ id kind h. let none = at-new-path None e in absurd (cc))) refl refl refl
-  moved-kept (Some node.Dir) e = names-kept n (with_moved n old new) (moves-stands n old new s may (λ id kind h. let dir = at-new-path (Some node.Dir) e in absurd (cc))) refl refl refl
+  moved-kept None e = names-kept n (with_moved n old new) (moves-stands n old new s may (λ id kind h. let none = at-new-path None e in absurd (cc))) refl refl refl refl
+  moved-kept (Some node.Dir) e = names-kept n (with_moved n old new) (moves-stands n old new s may (λ id kind h. let dir = at-new-path (Some node.Dir) e in absurd (cc))) refl refl refl refl
   moved-kept (Some (node.File id kind)) e =
       let there = at-new-path (Some (node.File id kind)) e in
       let row = live-row n id kind (number_at n old) s.sizes.live_files (s.live.linked (number_at n old) (rest_of n new) id kind there) in
-      lost-kept n (with_moved n old new) id.row row.0 row.1 (replaces-stands n old new s may id kind there) refl refl refl
+      lost-kept n (with_moved n old new) id.row row.0 row.1 (replaces-stands n old new s may id kind there) refl refl refl refl
 
 either-kept : (n : Namespace) (old new : Path) (b : Bool) → same_path old new ≡ b → Stands Nothing n → rename_refusals n old new ≡ Ok tt →
     Kept n (if b then answers reply.Done n [] else move_at n old new)

@@ -34,7 +34,7 @@ use Rattle.vfs_model.specs.declared.namespace.Namespace.{Namespace}
 use Rattle.vfs_model.specs.declared.namespace.Reference.{Reference}
 use Rattle.vfs_model.specs.declared.namespace.RowChange.TheVariants as change
 use Rattle.vfs_model.specs.declared.world.WorldState.{WorldState}
-use Rattle.world_laws.proofs.Agreeing.{Agrees, Begins, agrees-beside, bind-agrees}
+use Rattle.world_laws.proofs.Agreeing.{Agrees, Begins, IsNewSpare, agrees-beside, bind-agrees}
 use Rattle.world_laws.proofs.Binding.{IsFreeBacking, MayBind, some-life, bind-stands, next_generations}
 use Rattle.world_laws.proofs.Covering.{IsMount, covering-is}
 use Rattle.world_laws.proofs.FileKeepingSteps.{free-place, place_of}
@@ -227,6 +227,12 @@ fresh-begins n m fs.Rom h = absurd (cc)
 fresh-begins n m fs.Dev h = absurd (cc)
 fresh-begins n m fs.Cell h = (refl, refl)
 
+fresh-spare : (n : Namespace) (m : Mount) (f : FsType) → is_read_only_type f ≡ false → is_without_cell n m f ≡ false → IsNewSpare n (new_origin (new_backing n m f))
+fresh-spare n m fs.Tmp h k = tt
+fresh-spare n m fs.Rom h k = absurd (cc)
+fresh-spare n m fs.Dev h k = absurd (cc)
+fresh-spare n m fs.Cell h k = (fresh-backing n m fs.Cell h k).2
+
 some-found : {X : Type 0} (P : X → Type 0) (found : Option X) (x : X) → found ≡ Some x → P x → IsSomeAnd found P
 some-found P found x e h = subst (λ f. IsSomeAnd f P) (sym e) h
 
@@ -287,14 +293,14 @@ made-kept n k p may absent s =
     record {
       stands = make-stands n p row life bind s may.walk (absent-none (node_at n p) absent) not_full refl;
       pages = λ volume cell. taken-pages (with_life (with_node n p (node.File (next_file n row) life.kind)) row (Some life) (next_generations n row)) life.backing volume cell;
-      files = λ v a. made-files v a row life (fresh-begins n m m.fs writable) free.small;
+      files = λ v a. made-files v a row life (fresh-begins n m m.fs writable) (fresh-spare n m m.fs writable some_cell) free.small;
     }
   where
-    made-files : (v : WorldState) → Agrees v n → (row : ℕ) (life : LiveFile) → Begins life (new_origin life.backing) → row - 1 < 1024 →
+    made-files : (v : WorldState) → Agrees v n → (row : ℕ) (life : LiveFile) → Begins life (new_origin life.backing) → IsNewSpare n (new_origin life.backing) → row - 1 < 1024 →
         Agrees (change_row v (change.Bind (next_file n row) (new_origin life.backing))) (bind_row (with_node n p (node.File (next_file n row) life.kind)) row life)
-    made-files v a row life b l =
+    made-files v a row life b new l =
         bind-agrees v (with_node n p (node.File (next_file n row) life.kind)) row life (new_origin life.backing) l s.sizes.live_files s.sizes.generations b
-        (agrees-beside v n (with_node n p (node.File (next_file n row) life.kind)) refl refl a)
+        new (agrees-beside v n (with_node n p (node.File (next_file n row) life.kind)) refl refl refl refl a)
 
 taken-references : (m : Namespace) (b : Backing) → (after_taking m b).references ≡ m.references
 taken-references m backing.Memory = refl
@@ -323,7 +329,7 @@ opened-kept n k p rows l same h kept (Some (node.File id kind)) e =
     record {
       stands = refer-stands Nothing m (place_of k number) reference place (live, (covering-number m p kept.stands.working_directories).1) kept.stands;
       pages = kept.pages;
-      files = λ v a. agrees-beside _ m (with_reference m k number (Some reference)) refl refl (kept.files v a);
+      files = λ v a. agrees-beside _ m (with_reference m k number (Some reference)) refl refl refl refl (kept.files v a);
     }
 
 at-path-kept : (n : Namespace) (k : ℕ) (p : Path) (b : Bool) → is_there n p ≡ b → 0 < k → MayOpen n k p → Stands Nothing n →

@@ -18,7 +18,7 @@ use Rattle.vfs_model.specs.declared.namespace.Reference.{Reference}
 use Rattle.vfs_model.specs.declared.namespace.RowChange.{RowChange}
 use Rattle.vfs_model.specs.declared.namespace.RowChange.TheVariants as change
 use Rattle.vfs_model.specs.declared.world.WorldState.{WorldState}
-use Rattle.world_laws.proofs.Agreeing.{Agrees, agrees-beside, agrees-ended, free-agrees}
+use Rattle.world_laws.proofs.Agreeing.{Agrees, agrees-beside, free-agrees}
 use Rattle.world_laws.proofs.Beside.{alive-beside, boxes-beside, working_directories-beside}
 use Rattle.world_laws.proofs.Binding.{live_files-set, rest-stands}
 use Rattle.world_laws.proofs.Emptying.{InRows, used-left}
@@ -160,8 +160,7 @@ unnamed-all (row ∷ rows) m changes f =
         stands = later.ended.stands;
         pages = λ volume cell. later.ended.pages volume cell ∙ end-pages (without_life m row) (end_of_dropped b) volume cell;
         files = λ v a. later.ended.files v (subst (λ w. Agrees w next) (sym (fold-append change_row v changes (change.Free (file_of m row) (end_of_dropped b) ∷ [])))
-            (agrees-ended _ (without_life m row) (end_of_dropped b)
-            (free-agrees (fold change_row v changes) m row (end_of_dropped b) (f.rows row (inl refl)).1 f.stands.sizes.live_files (dropped-ends b) a)));
+            (free-agrees (fold change_row v changes) m row (end_of_dropped b) (f.rows row (inl refl)).1 f.stands.sizes.live_files (dropped-ends m row b refl) a));
       };
       rest = later.rest;
       mounts = later.mounts ∙ leaves.mounts;
@@ -253,7 +252,7 @@ module _ (n : Namespace) (s : Stands Nothing n) where
         ended = record {
           stands = out.ended.stands;
           pages = out.ended.pages;
-          files = λ v a. out.ended.files v (agrees-beside v n (unreferred n) refl refl a);
+          files = λ v a. out.ended.files v (agrees-beside v n (unreferred n) refl refl refl refl a);
         };
         rest = out.rest;
         mounts = out.mounts;

@@ -26,6 +26,7 @@ use Rattle.world_laws.proofs.Lists.{number-itself, other-number, same-number, sa
 use Rattle.world_laws.proofs.MountRemoval.{emptied-stands}
 use Rattle.world_laws.proofs.Passing.{and-first}
 use Rattle.world_laws.proofs.Standing.{Held, Linked, Nothing, Stands}
+use Rattle.world_laws.proofs.Taking.{boxes-but}
 use Rattle.world_laws.proofs.Vacating.{cell-kind-is, no-rows, on-cell}
 
 -- no reference is left, and each session is in `/`
@@ -124,9 +125,10 @@ module _ (m : Namespace) (s : Stands Nothing (lone m)) (rest : AtRest (lone m)) 
         references = s.sizes.references;
       };
     };
-    boxes = record { spares = s.boxes.spares; kinds = s.boxes.kinds; mounted = s.boxes.mounted; kept = s.boxes.kept; sources_differ = s.boxes.sources_differ; named = s.boxes.named };
+    boxes = record { spares = s.boxes.spares; kinds = s.boxes.kinds; mounted = s.boxes.mounted; kept = s.boxes.kept; sources_differ = (boxes-but (lone m) s.boxes).sources_differ; named = s.boxes.named };
     devices = s.boxes.devices;
     cells = λ volume cell v c. let placed = s.boxes.cells volume cell v c in let none = no-cell-rows volume cell in omega (arith, placed, none);
+    lone = λ volume cell v c. let placed = s.boxes.cells volume cell v c in omega (arith, placed);
     live_files = λ row life h other. absurd (other (own-mount row life h).0);
     whole = λ row life l h e. bare-row row life l h;
     rows = rows-left m.root.number 1 (bare m) m.live_files (omega arith) (let e = s.sizes.live_files in omega (arith, e)) (λ k l. ap (λ x. slice_index_or m.live_files x None) (omega arith));
@@ -155,7 +157,7 @@ module _ (m : Namespace) (s : Stands Nothing (lone m)) (rest : AtRest (lone m)) 
       record {
         stands = emptied-stands m.root.number _ all.empty;
         pages = all.pages;
-        files = λ v a. all.files v (agrees-beside (fold change_row v changes) (lone m) (bare m) refl refl a);
+        files = λ v a. all.files v (agrees-beside (fold change_row v changes) (lone m) (bare m) refl refl refl refl a);
       })
 
 -- the mount of `/` is emptied, where it is the only one

@@ -226,5 +226,5 @@ shutdown-kept n (mark.Fault moved) s =
     record {
       stands = stopped-stands (remove_all n).next all.stands;
       pages = all.pages;
-      files = λ v a. agrees-beside (fold change_row v (remove_all n).changes) (remove_all n).next (record (remove_all n).next { is_stopped = true }) refl refl (all.files v a);
+      files = λ v a. agrees-beside (fold change_row v (remove_all n).changes) (remove_all n).next (record (remove_all n).next { is_stopped = true }) refl refl refl refl (all.files v a);
     }

@@ -6,7 +6,7 @@ use Rattle.vfs_base.specs.declared.ids.FileId.{FileId}
 use Rattle.vfs_base.specs.declared.kinds.Kind.{Kind}
 use Rattle.vfs_base.specs.declared.kinds.NodeKind.{NodeKind}
 use Rattle.vfs_base.specs.declared.kinds.NodeKind.TheVariants as node
-use Rattle.vfs_model.specs.Boxes.{BoxesPlaced, CellsFit, IsConsistent, RomsClosed}
+use Rattle.vfs_model.specs.Boxes.{BoxesPlaced, CellsFit, HomesFit, IsConsistent, RomsClosed}
 use Rattle.vfs_model.specs.Consistency.{FoldersStand, IsClosedTree, LivesFit, ReferencesLive, agrees}
 use Rattle.vfs_model.specs.FileLife.{has_row, is_file_of_row, is_held, is_linked, refers_to}
 use Rattle.vfs_model.specs.Homes.{file_at}
@@ -152,8 +152,8 @@ stands-of w c = record {
 }
 
 pub consistent-of : (w : WorldState) → Stands Nothing w.namespace →
-    ((row : ℕ) → agrees (life_at w.namespace row) (generation_at w.namespace row) (file_at w row) ≡ true) → CellsFit w → length w.files ≡ 1024 → IsConsistent w
-consistent-of w s agree fit files = record {
+    ((row : ℕ) → agrees (life_at w.namespace row) (generation_at w.namespace row) (file_at w row) ≡ true) → CellsFit w → HomesFit w → length w.files ≡ 1024 → IsConsistent w
+consistent-of w s agree fit homes files = record {
   rows_agree = agree;
   references_live = s.live;
   rows_used = record { used = λ row l h. used-is w.namespace row (s.used row l h); alone = s.alone };
@@ -163,6 +163,7 @@ consistent-of w s agree fit files = record {
   boxes_placed = s.boxes;
   live_files_fit = s.live_files;
   cells_fit = fit;
+  homes_fit = homes;
   roms_closed = s.roms;
   sizes = record {
     files = files;

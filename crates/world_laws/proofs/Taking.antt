@@ -4,7 +4,7 @@ use Rattle.std.proofs.lemmas.List.{length-set, set_past}
 use Rattle.std.proofs.lemmas.List.Folds.{position_or_len-set}
 use Rattle.std.proofs.lemmas.List.Sums.{sum_by-set}
 use Rattle.std.specs.Prelude.{count_by}
-use Rattle.vfs_model.specs.Boxes.{BoxesPlaced, cell_files, fits_kind, is_backed_by, is_kept_dir, is_kept_on, lies_on_cell, lies_on_device, one_if}
+use Rattle.vfs_model.specs.Boxes.{BoxesPlaced, cell_files, fits_kind, is_backed_by, is_cell_mount, is_kept_dir, is_kept_on, lies_on_cell, lies_on_device, one_if}
 use Rattle.vfs_model.specs.Consistency.{IsClosedTree}
 use Rattle.vfs_model.specs.Content.{is_mounted, same_type}
 use Rattle.vfs_model.specs.FileLife.{no_device, no_volume, volume_at, volume_named, with_cell, with_device, with_spare_cell}
@@ -13,6 +13,7 @@ use Rattle.vfs_base.specs.declared.kinds.FsType.TheVariants as fs
 use Rattle.vfs_model.specs.declared.namespace.LiveFile.{LiveFile}
 use Rattle.vfs_model.specs.declared.namespace.Mount.{Mount}
 use Rattle.vfs_model.specs.declared.namespace.Namespace.{Namespace}
+use Rattle.world_laws.proofs.Filters.{PassingDiffer, kept-differ, passing-differ}
 use Rattle.world_laws.proofs.Lists.{below-or-past, same-or-other, set-here, set-there}
 
 -- what holds of a new item at its place, and held of the old ones, holds at each place of the list
@@ -36,9 +37,7 @@ pub record BoxesBut (n : Namespace) : Type 0 where
   pub kinds : (row : ℕ) → fits_kind (life_at n row) ≡ true
   pub mounted : (volume : ℕ) → is_mounted n fs.Cell (volume_at n volume).name ≡ true → (volume_at n volume).kept ≡ []
   pub kept : (volume : ℕ) → IsClosedTree is_kept_dir (volume_at n volume).kept
-  pub sources_differ : (place other : ℕ) (d : Mount) → place < length (all_mounts n) → other < length (all_mounts n) →
-      same_type (slice_index_or (all_mounts n) place d).fs fs.Cell ≡ true → same_type (slice_index_or (all_mounts n) other d).fs fs.Cell ≡ true →
-      (slice_index_or (all_mounts n) place d).source ≡ (slice_index_or (all_mounts n) other d).source → place ≡ other
+  pub sources_differ : PassingDiffer is_cell_mount (λ mount. mount.source) (all_mounts n)
   pub named : (volume : ℕ) → ((volume_at n volume).kept ≡ []) ⊎ (volume_named n (volume_at n volume).name ≡ volume)
 
 abbrev pub CellsPlaced : Namespace → Type 0
@@ -49,7 +48,14 @@ abbrev pub DevicesPlaced : Namespace → Type 0
 DevicesPlaced n = (device : ℕ) → device < length n.devices → count_by (is_backed_by (lies_on_device device)) n.live_files ≡ one_if (slice_index_or n.devices device no_device).is_out
 
 pub boxes-but : (n : Namespace) → BoxesPlaced n → BoxesBut n
-boxes-but n boxes = record { spares = boxes.spares; kinds = boxes.kinds; mounted = boxes.mounted; kept = boxes.kept; sources_differ = boxes.sources_differ; named = boxes.named }
+boxes-but n boxes = record {
+  spares = boxes.spares;
+  kinds = boxes.kinds;
+  mounted = boxes.mounted;
+  kept = boxes.kept;
+  sources_differ = passing-differ is_cell_mount (λ mount. mount.source) (all_mounts n) boxes.sources_differ;
+  named = boxes.named;
+}
 
 pub boxes-all : (n : Namespace) → CellsPlaced n → DevicesPlaced n → BoxesBut n → BoxesPlaced n
 boxes-all n cells devices boxes = record {
@@ -59,7 +65,7 @@ boxes-all n cells devices boxes = record {
   kinds = boxes.kinds;
   mounted = boxes.mounted;
   kept = boxes.kept;
-  sources_differ = boxes.sources_differ;
+  sources_differ = kept-differ is_cell_mount (λ mount. mount.source) (all_mounts n) boxes.sources_differ;
   named = boxes.named;
 }
 

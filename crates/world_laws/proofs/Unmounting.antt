@@ -16,8 +16,8 @@ use Rattle.vfs_base.specs.declared.kinds.Kind.{Kind}
 use Rattle.vfs_base.specs.declared.kinds.NodeKind.{NodeKind}
 use Rattle.vfs_base.specs.declared.kinds.NodeKind.TheVariants as node
 use Rattle.vfs_model.proofs.MountLaws.{nearest-others, unmounted-leaves}
-use Rattle.vfs_model.specs.Boxes.{RomsClosed, fits_kind, is_kept_dir}
-use Rattle.vfs_model.specs.Consistency.{FoldersStand, IsClosedTree, IsLive, ReferencesLive, covered_mount, is_number, stands_on_folder}
+use Rattle.vfs_model.specs.Boxes.{RomsClosed, fits_kind, is_cell_mount, is_kept_dir}
+use Rattle.vfs_model.specs.Consistency.{AllDiffer, FoldersStand, IsClosedTree, IsLive, ReferencesLive, covered_mount, is_number, stands_on_folder}
 use Rattle.vfs_model.specs.Content.{is_mounted, same_type}
 use Rattle.vfs_model.specs.FileLife.{no_volume, volume_at, volume_named}
 use Rattle.vfs_model.specs.Laws.{without_mount}
@@ -31,7 +31,8 @@ use Rattle.vfs_model.specs.declared.namespace.Namespace.{Namespace}
 use Rattle.world_laws.proofs.Binding.{Rest}
 use Rattle.world_laws.proofs.Covering.{IsMount, one-number}
 use Rattle.world_laws.proofs.Emptying.{InRows, RowsLeft, of-mount}
-use Rattle.world_laws.proofs.Leaving.{in-left, kept-apart, kept_place, kept-rising, kept-within, rows-in, rows-left}
+use Rattle.world_laws.proofs.Filters.{PassingDiffer, filter-holds, kept-apart, kept_place, kept-rising, kept-within}
+use Rattle.world_laws.proofs.Leaving.{in-left, rows-in, rows-left}
 use Rattle.world_laws.proofs.Lists.{AnyPlace, any-place, below-or-past, no-place, number-itself, or-either, or-first, or-second, other-number, same-number, same-or-other, same-some, set-here, set-there, some-within, true-or-false}
 use Rattle.world_laws.proofs.Passing.{and-first, and-second}
 use Rattle.world_laws.proofs.Points.{point-covers}
@@ -39,7 +40,7 @@ use Rattle.world_laws.proofs.Clear.{below-prefix}
 use Rattle.world_laws.proofs.Covering.{prefix-length, same-prefix}
 use Rattle.world_laws.proofs.Nodes.{prefix-itself}
 use Rattle.world_laws.proofs.Standing.{Held, IsUsed, Linked, Nothing, Stands}
-use Rattle.world_laws.proofs.Taking.{BoxesBut, set-at}
+use Rattle.world_laws.proofs.Taking.{BoxesBut, boxes-but, set-at}
 
 -- the test by which a mount is left out
 abbrev pub stays : ℕ → Mount → Bool
@@ -76,17 +77,6 @@ stays-filter test other (m ∷ mounts) = by (test m) (other m) refl refl (stays-
     by false false e f later =
         ap (λ x. filter test (if x then m ∷ filter other mounts else filter other mounts)) f ∙ later ∙ sym (ap (λ x. filter other (if x then m ∷ filter test mounts else filter test mounts)) e)
 
--- what a filter keeps passes
-filter-step : (test : Mount → Bool) (x : Mount) (left : List Mount) (b : Bool) → test x ≡ b → (place : ℕ) (d : Mount) →
-    ((at : ℕ) → at < length left → test (slice_index_or left at d) ≡ true) → place < length (if b then x ∷ left else left) → test (slice_index_or (if b then x ∷ left else left) place d) ≡ true
-filter-step test x left true e zero d h l = e
-filter-step test x left true e (suc place) d h l = h place (omega (arith, l))
-filter-step test x left false e place d h l = h place l
-
-filter-holds : (test : Mount → Bool) (mounts : List Mount) (place : ℕ) (d : Mount) → place < length (filter test mounts) → test (slice_index_or (filter test mounts) place d) ≡ true
-filter-holds test [] place d l = absurd (omega (arith, l))
-filter-holds test (x ∷ mounts) place d l = filter-step test x (filter test mounts) (test x) refl place d (λ at m. filter-holds test mounts at d m) l
-
 module _ (n : Namespace) (mount : Mount) (s : Stands Nothing n) (may : MayLeave n mount) where
   -- all mounts that stay, with that of `/`
   pub all-left : (f : FsType) → all_mounts (left_by n mount f) ≡ filter (stays mount.number) (all_mounts n)
@@ -105,10 +95,7 @@ module _ (n : Namespace) (mount : Mount) (s : Stands Nothing n) (may : MayLeave 
       let within = kept-within (stays mount.number) (all_mounts n) place d (subst (λ ms. place < length ms) (all-left f) l) in
       (within.0, ap (λ ms. slice_index_or ms place d) (all-left f) ∙ within.1)
 
-  differ-left : {X : Type 0} (f : FsType) (tell : Mount → X) → ((place other : ℕ) (d : Mount) → place < length (all_mounts n) → other < length (all_mounts n) →
-      tell (slice_index_or (all_mounts n) place d) ≡ tell (slice_index_or (all_mounts n) other d) → place ≡ other) →
-      (place other : ℕ) (d : Mount) → place < length (all_mounts (left_by n mount f)) → other < length (all_mounts (left_by n mount f)) →
-      tell (slice_index_or (all_mounts (left_by n mount f)) place d) ≡ tell (slice_index_or (all_mounts (left_by n mount f)) other d) → place ≡ other
+  differ-left : {X : Type 0} (f : FsType) (tell : Mount → X) → AllDiffer tell (all_mounts n) → AllDiffer tell (all_mounts (left_by n mount f))
   differ-left f tell old place other d l m e =
       let a = at-from f place d l in
       let b = at-from f other d m in
@@ -376,7 +363,7 @@ module _ (n : Namespace) (mount : Mount) (s : Stands Nothing n) (may : MayLeave 
           let kind = and-first (same_type m.fs fs.Cell) (same_bytes m.source mount.source) found.holds in
           let word = (bytes_decides m.source mount.source).0 (and-second (same_type m.fs fs.Cell) (same_bytes m.source mount.source) found.holds) in
           let own = may.is in
-          let same = s.boxes.sources_differ (kept_place (stays mount.number) (all_mounts n) found.place) own.place mount a.0 own.within (sym (ap (λ x. same_type x.fs fs.Cell) a.1) ∙ kind)
+          let same = (boxes-but n s.boxes).sources_differ (kept_place (stays mount.number) (all_mounts n) found.place) own.place mount a.0 own.within (sym (ap (λ x. same_type x.fs fs.Cell) a.1) ∙ kind)
           (ap (λ x. same_type x.fs fs.Cell) own.is ∙ ap (λ t. same_type t fs.Cell) cell) (sym (ap (λ x. x.source) a.1) ∙ word ∙ sym (ap (λ x. x.source) own.is)) in
           let number : m.number ≡ mount.number = ap (λ x. x.number) a.1 ∙ ap (λ k. (slice_index_or (all_mounts n) k mount).number) same ∙ ap (λ x. x.number) own.is in
           let stayed : stays mount.number m ≡ true = ap (stays mount.number) (ap (λ ms. slice_index_or ms found.place mount) (all-left f))
@@ -408,14 +395,12 @@ module _ (n : Namespace) (mount : Mount) (s : Stands Nothing n) (may : MayLeave 
               or-second (same_type m.fs fs.Cell && same_bytes m.source name) _
               (later (sym (ap (λ b. list_any (λ m. same_type m.fs fs.Cell && same_bytes m.source name) (if b then m ∷ filter (stays mount.number) mounts else filter (stays mount.number) mounts)) e) ∙ k))
 
-  sources-left : (f : FsType) (place other : ℕ) (d : Mount) → place < length (all_mounts (left_by n mount f)) → other < length (all_mounts (left_by n mount f)) →
-      same_type (slice_index_or (all_mounts (left_by n mount f)) place d).fs fs.Cell ≡ true → same_type (slice_index_or (all_mounts (left_by n mount f)) other d).fs fs.Cell ≡ true →
-      (slice_index_or (all_mounts (left_by n mount f)) place d).source ≡ (slice_index_or (all_mounts (left_by n mount f)) other d).source → place ≡ other
+  sources-left : (f : FsType) → PassingDiffer is_cell_mount (λ m. m.source) (all_mounts (left_by n mount f))
   sources-left f place other d l m k j e =
       let a = at-from f place d l in
       let b = at-from f other d m in
       kept-apart (stays mount.number) (all_mounts n) place other (subst (λ ms. place < length ms) (all-left f) l) (subst (λ ms. other < length ms) (all-left f) m)
-      (s.boxes.sources_differ _ _ d a.0 b.0 (sym (ap (λ x. same_type x.fs fs.Cell) a.1) ∙ k) (sym (ap (λ x. same_type x.fs fs.Cell) b.1) ∙ j) (sym (ap (λ x. x.source) a.1) ∙ e ∙ ap (λ x. x.source) b.1))
+      ((boxes-but n s.boxes).sources_differ _ _ d a.0 b.0 (sym (ap (λ x. same_type x.fs fs.Cell) a.1) ∙ k) (sym (ap (λ x. same_type x.fs fs.Cell) b.1) ∙ j) (sym (ap (λ x. x.source) a.1) ∙ e ∙ ap (λ x. x.source) b.1))
 
   pub other-left : (f : FsType) → (left_by n mount f).volumes ≡ n.volumes → BoxesBut (left_by n mount f)
   other-left f volumes = record {

@@ -30,7 +30,8 @@ use Rattle.vfs_model.specs.declared.namespace.LiveFile.{LiveFile}
 use Rattle.vfs_model.specs.declared.namespace.Mount.{Mount}
 use Rattle.vfs_model.specs.declared.namespace.Namespace.{Namespace}
 use Rattle.world_laws.proofs.Emptying.{AllAbove, Empty, InRows, RowsLeft, twice}
-use Rattle.world_laws.proofs.Leaving.{count-any, in-left, one-place, rows-left, some-count, unique-count}
+use Rattle.world_laws.proofs.Counting.{some-count}
+use Rattle.world_laws.proofs.Leaving.{count-any, in-left, one-place, rows-left, unique-count}
 use Rattle.world_laws.proofs.Lists.{any-node, below-or-past, node-any, number-itself, place-any, other-number, same-number, same-or-other, same-some, true-or-false}
 use Rattle.world_laws.proofs.OpenKeeping.{numbered}
 use Rattle.world_laws.proofs.Passing.{and-first, and-second}
@@ -307,6 +308,19 @@ module _ (n : Namespace) (mount : Mount) (s : Stands Nothing n) (may : MayLeave 
             omega (arith, placed, spare, now, was, counted, rows)
       ]
 
+  -- a live file is alone on its cell
+  lone-left : (f : FsType) (volume cell : ℕ) → volume < length (left_by n mount f).volumes → cell < length (volume_at (left_by n mount f) volume).pages →
+      count_by (is_backed_by (lies_on_cell volume cell)) (left_by n mount f).live_files + one_if (slice_index_or (volume_at (left_by n mount f) volume).spare cell false) ≤ 1
+  lone-left fs.Tmp volume cell v c = let placed = s.boxes.cells volume cell v c in omega (arith, placed)
+  lone-left fs.Rom volume cell v c = let placed = s.boxes.cells volume cell v c in omega (arith, placed)
+  lone-left fs.Dev volume cell v c = let placed = s.boxes.cells volume cell v c in omega (arith, placed)
+  lone-left fs.Cell volume cell v c =
+      let within : volume < length n.volumes = subst (λ x. volume < x) (length-set n.volumes (volume_named n mount.source) _) v in
+      let inside : cell < length (volume_at n volume).pages = subst (λ pages. cell < length pages) (keep-pages n mount s may volume) c in
+      let placed = s.boxes.cells volume cell within inside in
+      let spare = ap (λ xs. one_if (slice_index_or xs cell false)) (keep-spare n mount s may volume) in
+      omega (arith, placed, spare)
+
   devices-left : (f : FsType) → DevicesPlaced (left_by n mount f)
   devices-left fs.Tmp = s.boxes.devices
   devices-left fs.Rom = s.boxes.devices
@@ -369,6 +383,7 @@ module _ (n : Namespace) (mount : Mount) (s : Stands Nothing n) (may : MayLeave 
         boxes = but-left mount.fs refl;
         devices = devices-left mount.fs;
         cells = cells-left mount.fs refl;
+        lone = lone-left mount.fs;
         live_files = live_files-left mount.fs;
         whole = λ row life l h e. row-of n mount s may row life l (sym (ap (λ live_files. slice_index_or live_files (row - 1) None) same.0) ∙ h) e;
         rows = rows-left mount.number 1 (left_by n mount mount.fs) n.live_files (omega arith) (let e = s.sizes.live_files in omega (arith, e))

@@ -75,6 +75,7 @@ with_file-consistent w row f keeps same c = record {
   boxes_placed = c.boxes_placed;
   live_files_fit = c.live_files_fit;
   cells_fit = cells-fit w row f same c.cells_fit;
+  homes_fit = record { volumes = c.homes_fit.volumes; cells = c.homes_fit.cells; devices = c.homes_fit.devices; kept = c.homes_fit.kept; out = c.homes_fit.out };
   roms_closed = c.roms_closed;
   sizes = record {
     files = set-files w row f ∙ c.sizes.files;
