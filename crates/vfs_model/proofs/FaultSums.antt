@@ -125,46 +125,45 @@ exact-before before now n x = record {
   chars = λ device. let a = n.chars device in let b = x.chars device in omega arith;
 }
 
--- up to each place of the schedule there are no more marks than faults
-faults-so-far : (deck : Deck) (describe : Describe) (schedule : List Entry) (trace : List ByDevice) (s : RunState) (at : ℕ) →
-    CountsRise deck describe schedule trace → state_after deck describe schedule ≡ Some s →
-    AreExact (slice_index_or trace (length schedule) no_devices) → at ≤ length schedule →
-    all_faults (slice_index_or trace 0 no_devices) + fault_marks (take at schedule) ≤ all_faults (slice_index_or trace at no_devices)
-faults-so-far deck describe schedule trace s zero c e x l = omega arith
-faults-so-far deck describe schedule trace s (suc at) c e x l =
-    let within : at < length schedule = omega (arith, l) in
-    let front = faults-so-far deck describe schedule trace s at c e x (omega (arith, l)) in
-    let stands = stands-before deck (opening_state deck describe) s schedule at e within in
-    let falls = c.rising at within in
-    let rest : NoneFalls (slice_index_or trace (at + 1) no_devices) (slice_index_or trace (length schedule) no_devices) =
-    subst (λ next. NoneFalls (slice_index_or trace (at + 1) no_devices) (slice_index_or trace next no_devices)) (omega (arith, within))
-    (rise-on deck describe schedule trace (at + 1) (length schedule - (at + 1)) c (omega (arith, within))) in
-    let exact = exact-before _ _ rest x in
-    subst (λ k. all_faults (slice_index_or trace 0 no_devices) + fault_marks (take k schedule) ≤ all_faults (slice_index_or trace k no_devices)) (omega arith)
-    (by-mark (is_fault (entry_at schedule at).mark) refl within front stands falls exact)
-  where
-    by-mark : (t : Bool) → is_fault (entry_at schedule at).mark ≡ t → at < length schedule →
-        all_faults (slice_index_or trace 0 no_devices) + fault_marks (take at schedule) ≤ all_faults (slice_index_or trace at no_devices) →
-        StandsBefore deck (opening_state deck describe) schedule at →
-        NoneFalls (slice_index_or trace at no_devices) (slice_index_or trace (at + 1) no_devices) →
-        AreExact (slice_index_or trace (at + 1) no_devices) →
-        all_faults (slice_index_or trace 0 no_devices) + fault_marks (take (at + 1) schedule) ≤ all_faults (slice_index_or trace (at + 1) no_devices)
-    by-mark false f within front stands falls exact =
-        let more = count_by_more_no (λ (entry : Entry). is_fault entry.mark) schedule at (record { who = who.End; mark = mark.Clear }) within f in
-        let on = faults-le (slice_index_or trace at no_devices) (slice_index_or trace (at + 1) no_devices) falls in omega (arith, more, on, front)
-    by-mark true f within front stands falls exact =
-        let more = count_by_more_yes (λ (entry : Entry). is_fault entry.mark) schedule at (record { who = who.End; mark = mark.Clear }) within f in
-        let rose = c.caused at (entry_at schedule at) stands.before stands.asked within (own-entry schedule at (record { who = who.End; mark = mark.Clear }) within) stands.state stands.step f in
-        let on = faults-less (step_devices stands.before.world.namespace (entry_at schedule at).who stands.asked)
-        (slice_index_or trace at no_devices) (slice_index_or trace (at + 1) no_devices) falls exact rose in omega (arith, more, on, front)
+module _ (deck : Deck) (describe : Describe) (schedule : List Entry) (trace : List ByDevice) (s : RunState) (c : CountsRise deck describe schedule trace)
+    (e : state_after deck describe schedule ≡ Some s) (x : AreExact (slice_index_or trace (length schedule) no_devices)) where
+  -- no more marks than faults up to a place of the schedule
+  abbrev SoFar : ℕ → Type 0
+  SoFar at =
+      all_faults (slice_index_or trace 0 no_devices) + fault_marks (take at schedule) ≤ all_faults (slice_index_or trace at no_devices)
 
-pub fault-marks-have-faults : (deck : Deck) (describe : Describe) (schedule : List Entry) (trace : List ByDevice) (s : RunState) →
-    CountsRise deck describe schedule trace → state_after deck describe schedule ≡ Some s → AreExact (slice_index_or trace (length schedule) no_devices) →
-    all_faults (slice_index_or trace 0 no_devices) + fault_marks schedule ≤ all_faults (slice_index_or trace (length schedule) no_devices)
-fault-marks-have-faults deck describe schedule trace s c e x =
-    subst (λ front. all_faults (slice_index_or trace 0 no_devices) + fault_marks front ≤ all_faults (slice_index_or trace (length schedule) no_devices))
-    (take-whole schedule) (faults-so-far deck describe schedule trace s (length schedule) c e x (omega arith))
-  where
-    take-whole : (entries : List Entry) → take (length entries) entries ≡ entries
-    take-whole [] = refl
-    take-whole (entry ∷ entries) = ap (λ rest. entry ∷ rest) (take-whole entries)
+  abbrev first_entry : Entry
+  first_entry = record { who = who.End; mark = mark.Clear }
+
+  -- one entry more
+  so-far-more : (at : ℕ) (t : Bool) → is_fault (entry_at schedule at).mark ≡ t → at < length schedule → SoFar at →
+      StandsBefore deck (opening_state deck describe) schedule at → AreExact (slice_index_or trace (at + 1) no_devices) → SoFar (at + 1)
+  so-far-more at false f within front stands exact =
+      let more = count_by_more_no (λ (entry : Entry). is_fault entry.mark) schedule at first_entry within f in
+      let on = faults-le (slice_index_or trace at no_devices) (slice_index_or trace (at + 1) no_devices) (c.rising at within) in omega (arith, more, on, front)
+  so-far-more at true f within front stands exact =
+      let more = count_by_more_yes (λ (entry : Entry). is_fault entry.mark) schedule at first_entry within f in
+      let rose = c.caused at (entry_at schedule at) stands.before stands.asked within (own-entry schedule at first_entry within) stands.state stands.step f in
+      let on = faults-less (step_devices stands.before.world.namespace (entry_at schedule at).who stands.asked)
+      (slice_index_or trace at no_devices) (slice_index_or trace (at + 1) no_devices) (c.rising at within) exact rose in omega (arith, more, on, front)
+
+  faults-so-far : (at : ℕ) → at ≤ length schedule → SoFar at
+  faults-so-far zero l = omega arith
+  faults-so-far (suc at) l =
+      let within : at < length schedule = omega (arith, l) in
+      let rest : NoneFalls (slice_index_or trace (at + 1) no_devices) (slice_index_or trace (length schedule) no_devices) =
+      subst (λ next. NoneFalls (slice_index_or trace (at + 1) no_devices) (slice_index_or trace next no_devices)) (omega (arith, within))
+      (rise-on deck describe schedule trace (at + 1) (length schedule - (at + 1)) c (omega (arith, within))) in
+      subst SoFar (omega arith)
+      (so-far-more at (is_fault (entry_at schedule at).mark) refl within (faults-so-far at (omega (arith, l)))
+      (stands-before deck (opening_state deck describe) s schedule at e within) (exact-before _ _ rest x))
+
+  pub fault-marks-have-faults :
+      all_faults (slice_index_or trace 0 no_devices) + fault_marks schedule ≤ all_faults (slice_index_or trace (length schedule) no_devices)
+  fault-marks-have-faults =
+      subst (λ front. all_faults (slice_index_or trace 0 no_devices) + fault_marks front ≤ all_faults (slice_index_or trace (length schedule) no_devices))
+      (take-whole schedule) (faults-so-far (length schedule) (omega arith))
+    where
+      take-whole : (entries : List Entry) → take (length entries) entries ≡ entries
+      take-whole [] = refl
+      take-whole (entry ∷ entries) = ap (λ rest. entry ∷ rest) (take-whole entries)

@@ -55,13 +55,13 @@ changed-files (change.Free freed ending ∷ changes) v =
 
 pub shown-folder : (v : WorldState) (m : Namespace) (tree : Tree) (shape : Kind) (behind : Content) (p : Path) → value_at path_cmp p behind ≡ None →
     Shown v m tree shape behind → Shown v m (put path_cmp p node.Dir tree) shape (behind ++ (p, None) ∷ [])
-shown-folder v m tree shape behind p none shown q place at h =
-    by (eq_by_cmp path_cmp q p) refl (sym (find-append path_cmp path_cmp_total behind p None q none) ∙ h)
+shown-folder v m tree shape behind p none shown = λ q place at h.
+    by q place at (eq_by_cmp path_cmp q p) refl (sym (find-append path_cmp path_cmp_total behind p None q none) ∙ h)
   where
-    by : (t : Bool) → eq_by_cmp path_cmp q p ≡ t → cond t (Some None) (value_at path_cmp q behind) ≡ Some (Some (origin.Rom place at)) →
+    by : (q : Path) (place : ℕ) (at : Path) (t : Bool) → eq_by_cmp path_cmp q p ≡ t → cond t (Some None) (value_at path_cmp q behind) ≡ Some (Some (origin.Rom place at)) →
         RomFile v m (put path_cmp p node.Dir tree) shape q place at
-    by true e k = absurd (cc)
-    by false e k =
+    by q place at true e k = absurd (cc)
+    by q place at false e k =
         let old = shown q place at k in
         let apart : q ≢ p = λ same. let gone = ap (λ r. value_at path_cmp r behind) same ∙ none in absurd (cc) in
         record { id = old.id; there = at-put-other p q node.Dir tree apart ∙ old.there; above = old.above; live = old.live; bytes = old.bytes }

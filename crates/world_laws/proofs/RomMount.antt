@@ -130,22 +130,32 @@ module _ (w : WorldState) (path : Path) (source : List ℕ) (p : Path) (s : Stan
             ∙ ap rom_node_bytes e,
       )
 
--- where the step is refused, nothing is claimed
-refused-or-shown : (w : WorldState) (path : Path) (source : List ℕ) (p : Path) (asked type : List ℕ) → Stands Nothing w.namespace → p ≢ [] → length w.files ≡ 1024 →
-    (r : Result (Unit {0}) Errno) → mount_refusals w.namespace path fs.Rom source ≡ r →
-    let out = namespace_part w (settled w.namespace (r >> done (add_mount w.namespace (new_mount w.namespace path fs.Rom source)))) (step.Mount source asked type) in
-    out.reply ≡ reply.Done → ShowsNode out.next (value_at path_cmp p (rom_nodes w.namespace source)) (node_at out.next.namespace (path ++ p))
-refused-or-shown w path source p asked type s some files (Ok passed) h e =
-    shows w path source p s some files (may-begin w.namespace path fs.Rom source s h) (value_at path_cmp p (rom_nodes w.namespace source)) refl
-refused-or-shown w path source p asked type s some files (Err errno) h e = absurd (cc)
+-- what is shown where the step is answered, and what was asked is all that is needed
+module _ (w : WorldState) (source type_text : List ℕ) (point_text : List ℕ) (path p : Path) (c : IsConsistent w) (some : p ≢ []) where
+  abbrev Shows : Result NamespaceOutcome Errno → Type 0
+  Shows answer =
+      let out = namespace_part w (settled w.namespace answer) (step.Mount source point_text type_text) in
+      out.reply ≡ reply.Done → ShowsNode out.next (value_at path_cmp p (rom_nodes w.namespace source)) (node_at out.next.namespace (path ++ p))
+
+  -- where the step is refused, nothing is claimed
+  refused-or-shown : (r : Result (Unit {0}) Errno) → mount_refusals w.namespace path fs.Rom source ≡ r →
+      Shows (r >> done (add_mount w.namespace (new_mount w.namespace path fs.Rom source)))
+  refused-or-shown (Ok passed) h e =
+      let s = stands-of w c in
+      shows w path source p s some c.sizes.files (may-begin w.namespace path fs.Rom source s h) (value_at path_cmp p (rom_nodes w.namespace source)) refl
+  refused-or-shown (Err errno) h e = absurd (cc)
+
+  mounted : (k : ℕ) → asked_path w.namespace k point_text ≡ Ok path → fs_type_of type_text ≡ Some fs.Rom →
+      Shows (mount_step w.namespace k source point_text type_text)
+  unfolding mount_at
+  mounted k named known =
+      let n = w.namespace in
+      let is : mount_step n k source point_text type_text ≡ mount_at n path fs.Rom source =
+      ap (λ found. found >>= (λ q. wanted errno.ENODEV (fs_type_of type_text) >>= (λ asked. mount_at n q asked source))) named
+      ∙ ap (λ found. wanted errno.ENODEV found >>= (λ asked. mount_at n path asked source)) known in
+      subst Shows (sym is) (refused-or-shown (mount_refusals n path fs.Rom source) refl)
 
 pub mounted-rom : MountedRomShowsItsFiles
-unfolding world_step namespace_step mount_at
-mounted-rom w k source point_text type_text path p c named known e some =
-    let n = w.namespace in
-    let is : mount_step n k source point_text type_text ≡ mount_at n path fs.Rom source =
-    ap (λ found. found >>= (λ q. wanted errno.ENODEV (fs_type_of type_text) >>= (λ asked. mount_at n q asked source))) named
-    ∙ ap (λ found. wanted errno.ENODEV found >>= (λ asked. mount_at n path asked source)) known in
-    subst (λ answer. let out = namespace_part w (settled n answer) (step.Mount source point_text type_text) in
-    out.reply ≡ reply.Done → ShowsNode out.next (value_at path_cmp p (rom_nodes n source)) (node_at out.next.namespace (path ++ p)))
-    (sym is) (refused-or-shown w path source p point_text type_text (stands-of w c) some c.sizes.files (mount_refusals n path fs.Rom source) refl) e
+unfolding world_step namespace_step
+mounted-rom w k source point_text type_text path p c named =
+    λ known e some. mounted w source type_text point_text path p c some k named known e
