@@ -50,6 +50,7 @@ pub mod RefusalExamples
 pub mod RefusedSteps
 pub mod RenameLaws
 pub mod ReplyTaking
+pub mod RowChangeExamples
 pub mod RowChanges
 pub mod RowShapes
 pub mod ScheduleExactness
