@@ -26,6 +26,7 @@ pub mod FailedCallExamples
 pub mod FileCommandExamples
 pub mod FileTalks
 pub mod FlatReplies
+pub mod FlatWorlds
 pub mod FolderCommandExamples
 pub mod FolderTalks
 pub mod FreeNumbers
