@@ -28,6 +28,7 @@ pub mod FaultSums
 pub mod FileCommandExamples
 pub mod FileTalks
 pub mod FlatReplies
+pub mod FlatWorlds
 pub mod FolderCommandExamples
 pub mod FolderTalks
 pub mod FreeNumbers
@@ -52,6 +53,7 @@ pub mod RefusalExamples
 pub mod RefusedSteps
 pub mod RenameLaws
 pub mod ReplyTaking
+pub mod RowChangeExamples
 pub mod RowChanges
 pub mod RestExamples
 pub mod Rests

@@ -108,3 +108,14 @@ takes_input (file.Bytes generation kind capacity bytes) asked = false
 abbrev pub BytesChangeNoFile : Type 0
 BytesChangeNoFile = (f : FileState) (asked : Step) (m : Mark) → takes_input f asked ≡ false →
     IsFlat (file_step f asked m).reply ⊎ ((file_step f asked m).next ≡ f)
+
+-- the step reads from a character device
+abbrev pub reads_device : WorldState → Step → Option ℕ → Bool
+reads_device w asked None = false
+reads_device w asked (Some row) = takes_input (file_at w row) asked
+
+-- a step that answers with a list or with bytes leaves the world as it was, but for a Chdir and the read of a character device
+abbrev pub ListsChangeNoWorld : Type 0
+ListsChangeNoWorld = (w : WorldState) (asker : Who) (asked : Step) (m : Mark) → is_chdir asked ≡ false →
+    reads_device w asked (step_row asked) ≡ false →
+    IsFlat (world_step w asker asked m).reply ⊎ ((world_step w asker asked m).next ≡ w)

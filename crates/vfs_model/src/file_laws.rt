@@ -1,7 +1,7 @@
 //! The laws of what steps do to rows and files: each function states one, and does nothing.
 
 ghost use Rattle.vfs_model.specs.LivingFiles.{FileLivesWhileNamed};
-ghost use Rattle.vfs_model.specs.RowChange.{BytesChangeNoFile, ChangesActByRow, ChangesHaveRows, ListsChangeNothing, StepActsByRow, TouchedRowsChange};
+ghost use Rattle.vfs_model.specs.RowChange.{BytesChangeNoFile, ChangesActByRow, ChangesHaveRows, ListsChangeNoWorld, ListsChangeNothing, StepActsByRow, TouchedRowsChange};
 
 /// The changes of a step in their order make of each row's file what the row's last change makes of it.
 pub fn changes_act_by_row()
@@ -31,6 +31,11 @@ pub fn lists_change_nothing()
 /// A step of a file that answers with bytes leaves the file as it was, but for the read of a character device.
 pub fn bytes_change_no_file()
     ensures { BytesChangeNoFile }
+{}
+
+/// A step that answers with a list or with bytes leaves the world as it was, but for a Chdir and the read of a character device.
+pub fn lists_change_no_world()
+    ensures { ListsChangeNoWorld }
 {}
 
 /// Between steps a row has a live file exactly where a path or a reference names it.
