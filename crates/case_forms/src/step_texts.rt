@@ -3,11 +3,10 @@
 
 use crate::escapes::push_escaped;
 use bitflags::Flags;
-use std::alloc::Global;
 use vfs_base::{Bytes, FileId, HoldId, NoMemory, OpenFlags, Step, push_number};
 
 /// Puts the step at the end.
-pub fn push_step(out: &mut Bytes, alloc: Global, step: &Step) -> Result<(), NoMemory> {
+pub fn push_step(out: &mut Bytes, step: &Step) -> Result<(), NoMemory> {
     match step {
         Step::Cwd => out.extend_from_slice(b"cwd"),
         Step::Mounts => out.extend_from_slice(b"mounts"),
@@ -21,10 +20,10 @@ pub fn push_step(out: &mut Bytes, alloc: Global, step: &Step) -> Result<(), NoMe
         | Step::Trunc { .. }
         | Step::Sync { .. }
         | Step::Load { .. }
-        | Step::Store { .. } => push_file_step(out, alloc, step),
-        Step::Close { hold } => push_hold(out, alloc, b"close", *hold),
-        Step::Map { hold } => push_hold(out, alloc, b"map", *hold),
-        Step::Unmap { hold } => push_hold(out, alloc, b"unmap", *hold),
+        | Step::Store { .. } => push_file_step(out, step),
+        Step::Close { hold } => push_hold(out, b"close", *hold),
+        Step::Map { hold } => push_hold(out, b"map", *hold),
+        Step::Unmap { hold } => push_hold(out, b"unmap", *hold),
         _ => push_path_step(out, step),
     }
 }
@@ -81,53 +80,53 @@ fn push_flag(out: &mut Bytes, is_set: bool, letter: u8) -> Result<(), NoMemory> 
     if is_set { out.push(letter) } else { Ok(()) }
 }
 
-fn push_file_step(out: &mut Bytes, alloc: Global, step: &Step) -> Result<(), NoMemory> {
+fn push_file_step(out: &mut Bytes, step: &Step) -> Result<(), NoMemory> {
     match step {
-        Step::Size { file } => push_file(out, alloc, b"size", *file),
-        Step::Sync { file } => push_file(out, alloc, b"sync", *file),
+        Step::Size { file } => push_file(out, b"size", *file),
+        Step::Sync { file } => push_file(out, b"sync", *file),
         Step::Trunc { file, len } => {
-            push_file(out, alloc, b"trunc", *file)?;
-            push_field(out, alloc, *len)
+            push_file(out, b"trunc", *file)?;
+            push_field(out, *len)
         }
         Step::Read { file, off, len } => {
-            push_file(out, alloc, b"read", *file)?;
-            push_field(out, alloc, *off)?;
-            push_field(out, alloc, *len)
+            push_file(out, b"read", *file)?;
+            push_field(out, *off)?;
+            push_field(out, *len)
         }
         Step::Load { file, off, len } => {
-            push_file(out, alloc, b"load", *file)?;
-            push_field(out, alloc, *off)?;
-            push_field(out, alloc, *len)
+            push_file(out, b"load", *file)?;
+            push_field(out, *off)?;
+            push_field(out, *len)
         }
         Step::Write { file, off, bytes } => {
-            push_file(out, alloc, b"write", *file)?;
-            push_field(out, alloc, *off)?;
+            push_file(out, b"write", *file)?;
+            push_field(out, *off)?;
             push_text(out, b"", bytes)
         }
         Step::Store { file, off, bytes } => {
-            push_file(out, alloc, b"store", *file)?;
-            push_field(out, alloc, *off)?;
+            push_file(out, b"store", *file)?;
+            push_field(out, *off)?;
             push_text(out, b"", bytes)
         }
         Step::Append { file, bytes } => {
-            push_file(out, alloc, b"append", *file)?;
+            push_file(out, b"append", *file)?;
             push_text(out, b"", bytes)
         }
         _ => out.extend_from_slice(b"no step of a file"),
     }
 }
 
-fn push_field(out: &mut Bytes, alloc: Global, number: u64) -> Result<(), NoMemory> {
+fn push_field(out: &mut Bytes, number: u64) -> Result<(), NoMemory> {
     out.push(b' ')?;
-    push_number(out, alloc, number)
+    push_number(out, number)
 }
 
-fn push_file(out: &mut Bytes, alloc: Global, word: &[u8], file: FileId) -> Result<(), NoMemory> {
+fn push_file(out: &mut Bytes, word: &[u8], file: FileId) -> Result<(), NoMemory> {
     out.extend_from_slice(word)?;
-    push_field(out, alloc, u64::from(file.row.number()))
+    push_field(out, u64::from(file.row.number()))
 }
 
-fn push_hold(out: &mut Bytes, alloc: Global, word: &[u8], hold: HoldId) -> Result<(), NoMemory> {
+fn push_hold(out: &mut Bytes, word: &[u8], hold: HoldId) -> Result<(), NoMemory> {
     out.extend_from_slice(word)?;
-    push_field(out, alloc, u64::from(hold.number))
+    push_field(out, u64::from(hold.number))
 }

@@ -45,7 +45,7 @@ impl Dialogue {
         } else if let Some(step) = line.strip_prefix("? ") {
             self.answer(alloc, step, made)
         } else if line == "own" || line.starts_with("own ") {
-            self.push_own_steps(alloc, made)
+            self.push_own_steps(made)
         } else {
             Ok(())
         }
@@ -101,7 +101,7 @@ impl Dialogue {
         let Next::Ask { step } = self.next(alloc)? else {
             return Err(CaseFault::Order);
         };
-        Ok(push_asked_step(made, alloc, &step)?)
+        Ok(push_asked_step(made, &step)?)
     }
 
     fn reply(&mut self, alloc: Global, text: &str) -> Result<(), CaseFault> {
@@ -123,13 +123,13 @@ impl Dialogue {
     }
 
     // The steps that give back what the command has.
-    fn push_own_steps(&self, alloc: Global, made: &mut Bytes) -> Result<(), CaseFault> {
+    fn push_own_steps(&self, made: &mut Bytes) -> Result<(), CaseFault> {
         let Some(command) = &self.command else {
             return Err(CaseFault::Order);
         };
         made.extend_from_slice(b"own")?;
         for place in 0..4 {
-            push_own(made, alloc, command.own(place))?;
+            push_own(made, command.own(place))?;
         }
         Ok(made.push(b'\n')?)
     }
@@ -149,16 +149,16 @@ fn push_ended(made: &mut Bytes, text: &str) -> Result<(), NoMemory> {
     made.push(b'\n')
 }
 
-fn push_asked_step(made: &mut Bytes, alloc: Global, step: &Step) -> Result<(), NoMemory> {
+fn push_asked_step(made: &mut Bytes, step: &Step) -> Result<(), NoMemory> {
     made.extend_from_slice(b"? ")?;
-    push_step(made, alloc, step)?;
+    push_step(made, step)?;
     made.extend_from_slice(b" =")
 }
 
-fn push_own(made: &mut Bytes, alloc: Global, step: Option<Step>) -> Result<(), NoMemory> {
+fn push_own(made: &mut Bytes, step: Option<Step>) -> Result<(), NoMemory> {
     let Some(step) = step else {
         return Ok(());
     };
     made.push(b' ')?;
-    push_step(made, alloc, &step)
+    push_step(made, &step)
 }

@@ -99,7 +99,7 @@ fn push_seek(
     };
     match table.seek(fd, off, whence) {
         Ok(place) => {
-            push_number(out, alloc, place)?;
+            push_number(out, place)?;
             Ok(out.push(b'\n')?)
         }
         Err(fault) => push_words(out, format!(in alloc; "{fault:?}")?.as_str()),

@@ -91,18 +91,18 @@ fn push_manifest(out: &mut Bytes, alloc: Global, text: &[u8]) -> Result<(), Case
 
 fn push_script(out: &mut Bytes, alloc: Global, text: &[u8]) -> Result<(), CaseFault> {
     match read_deck(alloc, text) {
-        Ok(deck) => Ok(push_deck(out, alloc, &deck)?),
+        Ok(deck) => Ok(push_deck(out, &deck)?),
         Err(fault) => push_fault(out, format!(in alloc; "{fault}")?.as_str()),
     }
 }
 
 // The roms, and a line for each act.
-fn push_deck(out: &mut Bytes, alloc: Global, deck: &Deck) -> Result<(), NoMemory> {
+fn push_deck(out: &mut Bytes, deck: &Deck) -> Result<(), NoMemory> {
     for rom in deck.roms.as_slice() {
         push_rom(out, rom)?;
     }
     for act in deck.acts.as_slice() {
-        push_act(out, alloc, act)?;
+        push_act(out, act)?;
     }
     Ok(())
 }
@@ -116,11 +116,11 @@ fn push_rom(out: &mut Bytes, rom: &RomText) -> Result<(), NoMemory> {
 }
 
 // A line that asks for the act.
-fn push_act(out: &mut Bytes, alloc: Global, act: &Act) -> Result<(), NoMemory> {
+fn push_act(out: &mut Bytes, act: &Act) -> Result<(), NoMemory> {
     match act {
         Act::Post { k, text, go } => {
             out.extend_from_slice(if *go { b"" } else { b"@" })?;
-            push_number(out, alloc, u64::from(k.number()))?;
+            push_number(out, u64::from(k.number()))?;
             out.push(b' ')?;
             out.extend_from_slice(text.as_slice())?;
         }
@@ -128,7 +128,7 @@ fn push_act(out: &mut Bytes, alloc: Global, act: &Act) -> Result<(), NoMemory> {
             out.push(b'!')?;
             for asker in list.as_slice() {
                 out.push(b' ')?;
-                push_who(out, alloc, *asker)?;
+                push_who(out, *asker)?;
             }
         }
     }
@@ -139,7 +139,7 @@ fn push_act(out: &mut Bytes, alloc: Global, act: &Act) -> Result<(), NoMemory> {
 fn push_soak(out: &mut Bytes, alloc: Global, rest: &str) -> Result<(), CaseFault> {
     let (seed, lines) = rest.split_once(" ").ok_or(CaseFault::Number)?;
     let deck = soak_deck(alloc, seed.parse()?, lines.parse()?)?;
-    Ok(push_deck(out, alloc, &deck)?)
+    Ok(push_deck(out, &deck)?)
 }
 
 // How many devices are shown where none was handed in.

@@ -35,7 +35,7 @@ pub fn fault_text(alloc: Global, fault: PlainFault) -> Result<Bytes, CaseFault> 
 pub fn numbered(alloc: Global, words: &[u8], number: u64) -> Result<Bytes, CaseFault> {
     let mut text = Bytes::new(alloc);
     text.extend_from_slice(words)?;
-    push_number(&mut text, alloc, number)?;
+    push_number(&mut text, number)?;
     text.push(b'\n')?;
     Ok(text)
 }

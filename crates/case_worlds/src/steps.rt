@@ -138,7 +138,7 @@ impl Trial {
     ) -> Result<(), CaseFault> {
         for step in steps.split("; ") {
             let mut line = Bytes::new(alloc);
-            push_numbered(&mut line, alloc, step, number)?;
+            push_numbered(&mut line, step, number)?;
             self.play_one_round(alloc, str::from_utf8(line.as_slice())?, made)?;
         }
         Ok(())
@@ -198,7 +198,7 @@ impl Trial {
         if let Reply::Opened { file, .. } = &reply {
             self.file = *file;
         }
-        Ok(push_reply(made, alloc, &reply)?)
+        Ok(push_reply(made, &reply)?)
     }
 }
 
@@ -208,21 +208,21 @@ fn push_verbatim(made: &mut Bytes, line: &str) -> Result<(), CaseFault> {
 }
 
 // The text with the number for each `{N}`, and what is left of 9999 for each `{9999-N}`.
-fn push_numbered(out: &mut Bytes, alloc: Global, text: &str, number: u32) -> Result<(), CaseFault> {
+fn push_numbered(out: &mut Bytes, text: &str, number: u32) -> Result<(), CaseFault> {
     for part in text.split("{") {
-        push_part(out, alloc, part, number)?;
+        push_part(out, part, number)?;
     }
     Ok(())
 }
 
-fn push_part(out: &mut Bytes, alloc: Global, part: &str, number: u32) -> Result<(), CaseFault> {
+fn push_part(out: &mut Bytes, part: &str, number: u32) -> Result<(), CaseFault> {
     let rest = match part.split_once("}") {
         Some(("N", rest)) => {
-            push_number(out, alloc, u64::from(number))?;
+            push_number(out, u64::from(number))?;
             rest
         }
         Some(("9999-N", rest)) => {
-            push_number(out, alloc, u64::from(9999u32.saturating_sub(number)))?;
+            push_number(out, u64::from(9999u32.saturating_sub(number)))?;
             rest
         }
         _ => part,

@@ -42,7 +42,7 @@ pub fn print_schedule(alloc: Global, entries: &[Entry]) -> Result<Bytes, NoMemor
     line.push(b'#')?;
     for entry in entries {
         line.push(b' ')?;
-        entry.push_to(&mut line, alloc)?;
+        entry.push_to(&mut line)?;
     }
     line.push(b'\n')?;
     Ok(line)

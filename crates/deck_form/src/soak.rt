@@ -92,11 +92,11 @@ fn post(alloc: Global, k: SessionId, text: &[u8]) -> Result<Act, NoMemory>
 }
 
 // Appends the path of a file.
-fn push_file(out: &mut Bytes, alloc: Global, file: u32) -> Result<(), NoMemory>
+fn push_file(out: &mut Bytes, file: u32) -> Result<(), NoMemory>
     ensures { OnOk result (out.new ≡ out.old ++ soak_file file) }
 {
     out.extend_from_slice(b"/v/f")?;
-    push_number(out, alloc, u64::from(file))
+    push_number(out, u64::from(file))
 }
 
 fn file_line(
@@ -110,7 +110,7 @@ fn file_line(
         ≡ act.Post k (before.now ++ soak_file file ++ behind.now) true) }
 {
     let mut text = copy_bytes(alloc, before)?;
-    push_file(&mut text, alloc, file)?;
+    push_file(&mut text, file)?;
     text.extend_from_slice(behind)?;
     Ok(Act::Post { k, text, go: true })
 }
@@ -120,9 +120,9 @@ fn echo_line(alloc: Global, k: SessionId, number: u32, file: u32) -> Result<Act,
         ≡ act.Post k (codes "echo t" ++ decimal number ++ codes " " ++ soak_file file) true) }
 {
     let mut text = copy_bytes(alloc, b"echo t")?;
-    push_number(&mut text, alloc, u64::from(number))?;
+    push_number(&mut text, u64::from(number))?;
     text.push(b' ')?;
-    push_file(&mut text, alloc, file)?;
+    push_file(&mut text, file)?;
     Ok(Act::Post { k, text, go: true })
 }
 
@@ -131,9 +131,9 @@ fn rename_line(alloc: Global, k: SessionId, old: u32, new: u32) -> Result<Act, N
         ≡ act.Post k (codes "mv " ++ soak_file old ++ codes " " ++ soak_file new) true) }
 {
     let mut text = copy_bytes(alloc, b"mv ")?;
-    push_file(&mut text, alloc, old)?;
+    push_file(&mut text, old)?;
     text.push(b' ')?;
-    push_file(&mut text, alloc, new)?;
+    push_file(&mut text, new)?;
     Ok(Act::Post { k, text, go: true })
 }
 
@@ -141,7 +141,7 @@ fn counted_line(alloc: Global, k: SessionId, before: &[u8], count: u32) -> Resul
     ensures { IfOk result (λ line. line ≡ act.Post k (before.now ++ decimal count) true) }
 {
     let mut text = copy_bytes(alloc, before)?;
-    push_number(&mut text, alloc, u64::from(count))?;
+    push_number(&mut text, u64::from(count))?;
     Ok(Act::Post { k, text, go: true })
 }
 

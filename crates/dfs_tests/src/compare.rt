@@ -1,43 +1,35 @@
 //! The first line at which a case's file is not what was made of it.
 
 use case_forms::{CaseFault, push_escaped};
-use std::alloc::Global;
 use vfs_base::{Bytes, NoMemory, push_number};
 
 /// Puts the first difference at the end; nothing where there is none and the case was played to its end.
 pub fn push_difference(
     out: &mut Bytes,
-    alloc: Global,
     text: &[u8],
     made: &[u8],
     played: Result<(), CaseFault>,
 ) -> Result<(), NoMemory> {
     match played {
         Ok(()) if text == made => Ok(()),
-        Ok(()) => push_first(out, alloc, text, made),
-        Err(fault) => push_fault(out, alloc, text, made, fault),
+        Ok(()) => push_first(out, text, made),
+        Err(fault) => push_fault(out, text, made, fault),
     }
 }
 
 // A fault comes behind all that was made, so a line that differs comes first.
-fn push_fault(
-    out: &mut Bytes,
-    alloc: Global,
-    text: &[u8],
-    made: &[u8],
-    fault: CaseFault,
-) -> Result<(), NoMemory> {
+fn push_fault(out: &mut Bytes, text: &[u8], made: &[u8], fault: CaseFault) -> Result<(), NoMemory> {
     if !text.starts_with(made) {
-        return push_first(out, alloc, text, made);
+        return push_first(out, text, made);
     }
-    push_place(out, alloc, lines_in(made).saturating_add(1))?;
+    push_place(out, lines_in(made).saturating_add(1))?;
     out.extend_from_slice(fault.why().as_bytes())
 }
 
-fn push_first(out: &mut Bytes, alloc: Global, text: &[u8], made: &[u8]) -> Result<(), NoMemory> {
+fn push_first(out: &mut Bytes, text: &[u8], made: &[u8]) -> Result<(), NoMemory> {
     let start = start_of_difference(text, made);
     let same = text.get(..start).unwrap_or(&[]);
-    push_place(out, alloc, lines_in(same).saturating_add(1))?;
+    push_place(out, lines_in(same).saturating_add(1))?;
     out.extend_from_slice(b"the case has `")?;
     push_escaped(out, line_at(text, start))?;
     out.extend_from_slice(b"`, and it is `")?;
@@ -45,9 +37,9 @@ fn push_first(out: &mut Bytes, alloc: Global, text: &[u8], made: &[u8]) -> Resul
     out.push(b'`')
 }
 
-fn push_place(out: &mut Bytes, alloc: Global, line: u64) -> Result<(), NoMemory> {
+fn push_place(out: &mut Bytes, line: u64) -> Result<(), NoMemory> {
     out.extend_from_slice(b"line ")?;
-    push_number(out, alloc, line)?;
+    push_number(out, line)?;
     out.extend_from_slice(b": ")
 }
 

@@ -142,13 +142,7 @@ fn tell(
     tally: &mut Tally,
 ) -> Result<(), CaseFault> {
     let mut difference = Bytes::new(rt.alloc());
-    push_difference(
-        &mut difference,
-        rt.alloc(),
-        text.as_bytes(),
-        made.as_slice(),
-        played,
-    )?;
+    push_difference(&mut difference, text.as_bytes(), made.as_slice(), played)?;
     if difference.is_empty() {
         tally.good = tally.good.saturating_add(1);
         return Ok(rt.eprintln(format_args!("{file}"))?);

@@ -61,9 +61,9 @@ impl Told {
     }
 
     fn take(&mut self, alloc: Global, report: &Report, written: &[u8]) -> Result<(), CaseFault> {
-        push_number(&mut self.status, alloc, u64::from(report.status))?;
+        push_number(&mut self.status, u64::from(report.status))?;
         push_note(&mut self.note, alloc, report)?;
-        push_number(&mut self.steps, alloc, report.schedule.len() as u64)?;
+        push_number(&mut self.steps, report.schedule.len() as u64)?;
         self.schedule = print_schedule(alloc, report.schedule.as_slice())?;
         self.output = copy_bytes(alloc, written)?;
         Ok(())

@@ -23,22 +23,22 @@ fn type_name<'a>(fs: FsType) -> &'a [u8]
 }
 
 // Appends a mount's type and numbers: its nodes, and how many more files it can hold.
-fn push_counts(out: &mut Bytes, alloc: Global, mount: &MountLine) -> Result<(), NoMemory>
+fn push_counts(out: &mut Bytes, mount: &MountLine) -> Result<(), NoMemory>
     ensures { OnOk result (out.new ≡ out.old ++ counts_text mount.now) }
 {
     out.extend_from_slice(type_name(mount.fs))?;
     out.push(b' ')?;
-    push_number(out, alloc, u64::from(mount.nodes))?;
+    push_number(out, u64::from(mount.nodes))?;
     out.push(b' ')?;
-    push_number(out, alloc, u64::from(mount.spare))
+    push_number(out, u64::from(mount.spare))
 }
 
-fn push_mount(out: &mut Bytes, alloc: Global, mount: &MountLine) -> Result<(), NoMemory>
+fn push_mount(out: &mut Bytes, mount: &MountLine) -> Result<(), NoMemory>
     ensures { OnOk result (out.new ≡ out.old ++ mount_text mount.now) }
 {
     out.extend_from_slice(mount.source.as_slice())?;
     out.push(b' ')?;
-    push_counts(out, alloc, mount)?;
+    push_counts(out, mount)?;
     out.push(b' ')?;
     push_printed(out, &mount.point)?;
     out.push(b'\n')
@@ -50,7 +50,7 @@ pub fn mounts_text(alloc: Global, mounts: &[MountLine]) -> Result<Bytes, NoMemor
 {
     let mut text = Bytes::new(alloc);
     for mount in mounts {
-        push_mount(&mut text, alloc, mount)?;
+        push_mount(&mut text, mount)?;
     }
     Ok(text)
 }
@@ -93,25 +93,25 @@ pub fn devices_text(alloc: Global, devices: &[DeviceLine]) -> Result<Bytes, NoMe
     Ok(text)
 }
 
-fn push_place(out: &mut Bytes, alloc: Global, place: &HolderPlace) -> Result<(), NoMemory>
+fn push_place(out: &mut Bytes, place: &HolderPlace) -> Result<(), NoMemory>
     ensures { OnOk result (out.new ≡ out.old ++ place_text place.now) }
 {
     match place {
         HolderPlace::At { path } => push_printed(out, path),
         HolderPlace::Row { row } => {
             out.extend_from_slice(b"(row ")?;
-            push_number(out, alloc, u64::from(row.number()))?;
+            push_number(out, u64::from(row.number()))?;
             out.push(b')')
         }
     }
 }
 
-fn push_holder(out: &mut Bytes, alloc: Global, holder: &HolderLine) -> Result<(), NoMemory>
+fn push_holder(out: &mut Bytes, holder: &HolderLine) -> Result<(), NoMemory>
     ensures { OnOk result (out.new ≡ out.old ++ holder_text holder.now) }
 {
-    push_place(out, alloc, &holder.place)?;
+    push_place(out, &holder.place)?;
     out.push(b' ')?;
-    push_number(out, alloc, u64::from(holder.count))?;
+    push_number(out, u64::from(holder.count))?;
     out.push(b'\n')
 }
 
@@ -121,7 +121,7 @@ pub fn holders_text(alloc: Global, holders: &[HolderLine]) -> Result<Bytes, NoMe
 {
     let mut text = Bytes::new(alloc);
     for holder in holders {
-        push_holder(&mut text, alloc, holder)?;
+        push_holder(&mut text, holder)?;
     }
     Ok(text)
 }

@@ -69,7 +69,7 @@ pub fn bytes_text(alloc: Global, bytes: &[u8]) -> Result<Bytes, NoMemory>
     ensures { IfOk result (λ shown. shown ≡ bytes_line bytes.now) }
 {
     let mut shown = Bytes::new(alloc);
-    push_number(&mut shown, alloc, bytes.len() as u64)?;
+    push_number(&mut shown, bytes.len() as u64)?;
     shown.push(b':')?;
     push_shown_bytes(&mut shown, bytes)?;
     shown.push(b'\n')?;
@@ -81,7 +81,7 @@ fn numbered_text(alloc: Global, text: &[u8], number: u64) -> Result<Bytes, NoMem
     ensures { IfOk result (λ shown. shown ≡ line (text.now ++ decimal number)) }
 {
     let mut shown = copy_bytes(alloc, text)?;
-    push_number(&mut shown, alloc, number)?;
+    push_number(&mut shown, number)?;
     shown.push(b'\n')?;
     Ok(shown)
 }
@@ -112,7 +112,7 @@ pub fn row_text(alloc: Global, row: RowId) -> Result<Bytes, NoMemory>
     ensures { IfOk result (λ shown. shown ≡ text_of_row row) }
 {
     let mut shown = copy_bytes(alloc, b"row ")?;
-    push_number(&mut shown, alloc, u64::from(row.number()))?;
+    push_number(&mut shown, u64::from(row.number()))?;
     Ok(shown)
 }
 
@@ -158,17 +158,12 @@ pub fn push_column(out: &mut Bytes, name: &[u8], text: &[u8]) -> Result<(), NoMe
 }
 
 /// Appends a name in a listing, and a number of bytes. After an `Err` a front of it may stand there.
-pub fn push_size_column(
-    out: &mut Bytes,
-    alloc: Global,
-    name: &[u8],
-    size: u64,
-) -> Result<(), NoMemory>
+pub fn push_size_column(out: &mut Bytes, name: &[u8], size: u64) -> Result<(), NoMemory>
     ensures { OnOk result (out.new ≡ out.old ++ column_line name.now (decimal size)) }
 {
     out.extend_from_slice(name)?;
     push_padding(out, name)?;
-    push_number(out, alloc, size)?;
+    push_number(out, size)?;
     out.push(b'\n')
 }
 
@@ -189,7 +184,7 @@ pub fn size_stat_text(alloc: Global, word: &[u8], size: u64) -> Result<Bytes, No
 {
     let mut shown = copy_bytes(alloc, word)?;
     shown.extend_from_slice(b" file ")?;
-    push_number(&mut shown, alloc, size)?;
+    push_number(&mut shown, size)?;
     shown.push(b'\n')?;
     Ok(shown)
 }

@@ -181,7 +181,7 @@ impl FolderCommand {
             FolderCommand::Cd => told_folder(alloc, b"cd", reply),
             FolderCommand::CdTo { word } => moved_to(alloc, &word, reply),
             FolderCommand::Ls { word } => listed(alloc, word, reply),
-            FolderCommand::LsSize { listing, name, .. } => sized(alloc, listing, &name, reply),
+            FolderCommand::LsSize { listing, name, .. } => sized(listing, &name, reply),
             FolderCommand::Mkdir { word } => done(alloc, b"mkdir", &word, reply),
             FolderCommand::Rmdir { word } => done(alloc, b"rmdir", &word, reply),
             FolderCommand::Rm { word, others } => removed(alloc, &word, others, reply),
@@ -266,18 +266,13 @@ fn listed(alloc: Global, word: Bytes, reply: &Reply) -> Result<FolderCommand, No
     }
 }
 
-fn sized(
-    alloc: Global,
-    mut listing: Listing,
-    name: &Name,
-    reply: &Reply,
-) -> Result<FolderCommand, NoMemory>
+fn sized(mut listing: Listing, name: &Name, reply: &Reply) -> Result<FolderCommand, NoMemory>
     ensures { IfOk result (λ next. folder_talk next
         ≡ sized_talk listing.word listing.text name.now (list_entries listing.word listing.entries.items) reply.now) }
 {
     match reply {
         Reply::SizeIs { size } => {
-            push_size_column(&mut listing.text, alloc, name.as_bytes(), *size)?;
+            push_size_column(&mut listing.text, name.as_bytes(), *size)?;
             list_on(listing)
         }
         Reply::Refused { errno } if is_absent(*errno) => {
@@ -297,11 +292,11 @@ fn sized(
 }
 
 /// One word after the other is removed.
-pub fn remove_all(alloc: Global, mut words: VecDeque<Bytes>) -> FolderCommand
+pub fn remove_all(mut words: VecDeque<Bytes>) -> FolderCommand
     ensures { folder_talk result ≡ remove_talk words.items }
 {
     match words.pop_front() {
-        None => shown(Bytes::new(alloc)),
+        None => shown(Bytes::new(*words.allocator())),
         Some(word) => FolderCommand::Rm {
             word,
             others: words,
@@ -318,7 +313,7 @@ fn removed(
     ensures { IfOk result (λ next. folder_talk next ≡ removed_talk word.now (remove_talk others.items) reply.now) }
 {
     match reply {
-        Reply::Done => Ok(remove_all(alloc, others)),
+        Reply::Done => Ok(remove_all(others)),
         Reply::Refused { errno } => {
             let text = subject_error_text(alloc, b"rm", word.as_slice(), *errno)?;
             Ok(shown(text))

@@ -1,22 +1,20 @@
 //! The end of all use: no reference is left, each session is in `/`, and files without a name go.
 
-ghost use Rattle.std.specs.Prelude.{◌≡◌, [], ◌+◌, ◌<◌, ◌≤◌, ◌&&◌, not, is_some, length, map, fold, drop, vec_len, vec_capacity, if◌then◌else◌};
+ghost use Rattle.std.specs.Prelude.{◌≡◌, [], ◌+◌, ◌<◌, ◌≤◌, ◌&&◌, not, is_some, length, map, fold, drop, slice_set, vec_len, vec_capacity, if◌then◌else◌};
 ghost use Rattle.vfs_model.specs.FileLife.{end_of_dropped, free_row, is_linked};
 ghost use Rattle.vfs_model.specs.Namespace.{life_at};
 ghost use Rattle.vfs_model.specs.UmountSteps.{come_to_rest, unlinked_rows};
 ghost use Rattle.plain_mounts.specs.Leaving.{live_count, rows_so_far, TreesShrink};
 
-use plain_files::flat;
 use plain_nodes::changes::Change;
 use plain_nodes::rows::{end_of_dropped, free_row, is_linked};
-use std::alloc::Global;
 use vfs_base::{List, Path, ROWS, RowId};
 use vfs_model::{Namespace, Reference};
 
 /// The references that are left go, and each session into `/`; a file that then has no name is freed, by
 /// row. The changes that are told have room for those of the rows.
 #[tactic(auto, unfolding(vfs_model::specs::UmountSteps::come_to_rest))]
-pub fn come_to_rest(namespace: &mut Namespace, alloc: Global, changes: &mut Vec<Change>)
+pub fn come_to_rest(namespace: &mut Namespace, changes: &mut Vec<Change>)
     requires live_files { length namespace.old.live_files ≡ 1024 }
     requires empty { changes.old.items ≡ [] }
     requires room { vec_len changes.old + live_count namespace.old ≤ vec_capacity changes.old }
@@ -25,29 +23,38 @@ pub fn come_to_rest(namespace: &mut Namespace, alloc: Global, changes: &mut Vec<
     ensures trees { TreesShrink namespace.old namespace.new }
     ensures room { vec_len changes.new + live_count namespace.new ≤ vec_capacity changes.new }
 {
-    end_references(&mut namespace.references, alloc);
-    leave_folders(&mut namespace.working_directories, alloc);
-    free_unlinked(namespace, alloc, changes);
+    end_references(&mut namespace.references);
+    leave_folders(&mut namespace.working_directories);
+    free_unlinked(namespace, changes);
 }
 
-fn end_references(references: &mut List<Option<Reference>>, alloc: Global)
+fn end_references(references: &mut List<Option<Reference>>)
     ensures { references.new ≡ map (λ reference. None) references.old }
 {
     for place in 0..references.len() {
-        flat::set(references, alloc, place, None);
+        references.set(place, None);
     }
 }
 
-fn leave_folders(working_directories: &mut List<Path>, alloc: Global)
+fn leave_folders(working_directories: &mut List<Path>)
     ensures { working_directories.new ≡ map (λ folder. []) working_directories.old }
 {
     for place in 0..working_directories.len() {
-        flat::set(working_directories, alloc, place, Path::root(alloc));
+        leave_folder(working_directories, place);
+    }
+}
+
+fn leave_folder(working_directories: &mut List<Path>, place: usize)
+    ensures { working_directories.new ≡ slice_set working_directories.old place [] }
+{
+    let folders = working_directories.as_mut_slice();
+    if place < folders.len() {
+        folders[place].clear();
     }
 }
 
 // Frees the files that stand at no path, by row.
-fn free_unlinked(namespace: &mut Namespace, alloc: Global, changes: &mut Vec<Change>)
+fn free_unlinked(namespace: &mut Namespace, changes: &mut Vec<Change>)
     requires live_files { length namespace.old.live_files ≡ 1024 }
     requires room { vec_len changes.old + live_count namespace.old ≤ vec_capacity changes.old }
     ensures next { fold (free_row end_of_dropped) (rows_so_far namespace.old changes.old.items) (unlinked_rows namespace.old)
@@ -57,13 +64,13 @@ fn free_unlinked(namespace: &mut Namespace, alloc: Global, changes: &mut Vec<Cha
     ensures room { vec_len changes.new + live_count namespace.new ≤ vec_capacity changes.new }
 {
     for place in 0..ROWS {
-        free_if_unlinked(namespace, alloc, place, changes);
+        free_if_unlinked(namespace, place, changes);
     }
 }
 
 // Frees the row at this place, counted from 0, if its file stands at no path.
 #[tactic(auto, unfolding(vfs_model::specs::FileLife::free_row))]
-fn free_if_unlinked(namespace: &mut Namespace, alloc: Global, place: u16, changes: &mut Vec<Change>)
+fn free_if_unlinked(namespace: &mut Namespace, place: u16, changes: &mut Vec<Change>)
     requires place { place < 1024 }
     requires live_files { length namespace.old.live_files ≡ 1024 }
     requires room { vec_len changes.old + live_count namespace.old ≤ vec_capacity changes.old }
@@ -82,7 +89,7 @@ fn free_if_unlinked(namespace: &mut Namespace, alloc: Global, place: u16, change
         return;
     }
     let end = end_of_dropped(namespace, row);
-    changes.push_reserved(free_row(namespace, alloc, row, end));
+    changes.push_reserved(free_row(namespace, row, end));
 }
 
 fn has_unlinked_file(namespace: &Namespace, row: RowId) -> bool
@@ -97,7 +104,7 @@ fn has_file(namespace: &Namespace, row: RowId) -> bool
     match namespace
         .live_files
         .as_slice()
-        .get(row.number() as usize - 1)
+        .get(row.place())
     {
         Some(life) => life.is_some(),
         None => false,

@@ -7,7 +7,7 @@ ghost use Rattle.vfs_base.specs.Entry.{mark_text, who_text};
 use crate::ids::{RowId, SessionId};
 use crate::list::Bytes;
 use crate::no_memory::NoMemory;
-use std::alloc::Global;
+use itoa::Buffer;
 
 /// How a step came out.
 #[derive(Clone, Copy, Debug, PartialEq, Eq)]
@@ -41,28 +41,28 @@ pub struct Entry {
 }
 
 /// Appends a number in decimal, without leading zeros. After an `Err` a front of it may stand there.
-pub fn push_number(out: &mut Bytes, alloc: Global, number: u64) -> Result<(), NoMemory>
+pub fn push_number(out: &mut Bytes, number: u64) -> Result<(), NoMemory>
     ensures { OnOk result (out.new ≡ out.old ++ decimal number) }
 {
-    let text = number.to_string(alloc)?;
-    out.extend_from_slice(text.as_bytes())
+    let mut digits = Buffer::new();
+    out.extend_from_slice(digits.format(number).as_bytes())
 }
 
 /// Appends how a step came out as a schedule shows it: nothing, `!n` or `mn`.
 ///
 /// After an `Err` a front of it may stand there.
-pub fn push_mark(out: &mut Bytes, alloc: Global, mark: Mark) -> Result<(), NoMemory>
+pub fn push_mark(out: &mut Bytes, mark: Mark) -> Result<(), NoMemory>
     ensures { OnOk result (out.new ≡ out.old ++ mark_text mark) }
 {
     match mark {
         Mark::Clear => Ok(()),
         Mark::Fault { n } => {
             out.push(b'!')?;
-            push_number(out, alloc, n)
+            push_number(out, n)
         }
         Mark::NoMem { n } => {
             out.push(b'm')?;
-            push_number(out, alloc, n)
+            push_number(out, n)
         }
     }
 }
@@ -70,18 +70,18 @@ pub fn push_mark(out: &mut Bytes, alloc: Global, mark: Mark) -> Result<(), NoMem
 /// Appends who took a step as a schedule shows it: `k`, `fR`, `rR` or `z`.
 ///
 /// After an `Err` a front of it may stand there.
-pub fn push_who(out: &mut Bytes, alloc: Global, who: Who) -> Result<(), NoMemory>
+pub fn push_who(out: &mut Bytes, who: Who) -> Result<(), NoMemory>
     ensures { OnOk result (out.new ≡ out.old ++ who_text who) }
 {
     match who {
-        Who::Session { k } => push_number(out, alloc, u64::from(k.number())),
+        Who::Session { k } => push_number(out, u64::from(k.number())),
         Who::Flush { row } => {
             out.push(b'f')?;
-            push_number(out, alloc, u64::from(row.number()))
+            push_number(out, u64::from(row.number()))
         }
         Who::Reclaim { row } => {
             out.push(b'r')?;
-            push_number(out, alloc, u64::from(row.number()))
+            push_number(out, u64::from(row.number()))
         }
         Who::End => out.push(b'z'),
     }
@@ -91,10 +91,10 @@ impl Entry {
     ghost use Rattle.vfs_base.specs.Entry.{entry_text};
 
     /// Appends the entry as a schedule shows it. After an `Err` a front of it may stand there.
-    pub fn push_to(self, out: &mut Bytes, alloc: Global) -> Result<(), NoMemory>
+    pub fn push_to(self, out: &mut Bytes) -> Result<(), NoMemory>
         ensures { OnOk result (out.new ≡ out.old ++ entry_text self) }
     {
-        push_who(out, alloc, self.who)?;
-        push_mark(out, alloc, self.mark)
+        push_who(out, self.who)?;
+        push_mark(out, self.mark)
     }
 }

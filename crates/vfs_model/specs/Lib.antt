@@ -26,6 +26,7 @@ pub mod FileLife
 pub mod FileMoves
 pub mod FileStep
 pub mod FolderCommands
+pub mod Gives
 pub mod HolderLaws
 pub mod Holders
 pub mod Homes
