@@ -1,5 +1,5 @@
 pub mod EntryLemmas
-pub mod FlatLemmas
 pub mod MovingLemmas
 pub mod PlaceLemmas
 pub mod StepLemmas
+pub mod WritingLemmas

@@ -6,9 +6,6 @@ ghost use Rattle.vfs_model.specs.FileLife.{volume_at};
 ghost use Rattle.vfs_model.specs.declared.namespace.RowChange.TheVariants as change;
 ghost use Rattle.plain_files.specs.Contents.{origin_content};
 
-use crate::flat::{replace, set};
-use std::alloc::Global;
-use std::mem;
 use vfs_base::{Bytes, Kind, List, PAGE_SIZE, RowId, TMP_FILE_MAX};
 use vfs_model::{DeviceHome, End, FileState, Homes, Namespace, Origin, WorldState};
 
@@ -16,7 +13,6 @@ use vfs_model::{DeviceHome, End, FileState, Homes, Namespace, Origin, WorldState
 /// own, so that binding wants none.
 pub fn bind_file(
     world: &mut WorldState,
-    alloc: Global,
     row: RowId,
     generation: u64,
     origin: &Origin,
@@ -26,52 +22,33 @@ pub fn bind_file(
     ensures { world.new ≡ change_row world.old
         (change.Bind (record { row = row; generation = generation }) origin.now) }
 {
-    let bound = begin_file(world, alloc, generation, origin, content);
-    set(&mut world.files, alloc, place_of(row), bound);
+    let bound = begin_file(world, generation, origin, content);
+    world.files.set(row.place(), bound);
 }
 
 /// Frees the row. What stays of its file comes home.
-pub fn free_file(world: &mut WorldState, alloc: Global, row: RowId, generation: u64, end: &End)
+pub fn free_file(world: &mut WorldState, row: RowId, generation: u64, end: &End)
     ensures { world.new ≡ change_row world.old
         (change.Free (record { row = row; generation = generation }) end.now) }
 {
     let freed = FileState::Unbound { generation };
-    let ended = replace_file(&mut world.files, alloc, row, freed);
-    bring_home(&mut world.homes, alloc, ended, end);
-}
-
-// The place of a row's file among the files.
-fn place_of(row: RowId) -> usize
-    ensures { result ≡ row - 1 }
-{
-    row.number() as usize - 1
+    let ended = replace_file(&mut world.files, row, freed);
+    bring_home(&mut world.homes, ended, end);
 }
 
 // Puts another file into the row, and answers the one that it had.
 #[tactic(auto, using(crate::proofs::PlaceLemmas::replacing))]
-fn replace_file(
-    files: &mut List<FileState>,
-    alloc: Global,
-    row: RowId,
-    next: FileState,
-) -> FileState
+fn replace_file(files: &mut List<FileState>, row: RowId, next: FileState) -> FileState
     ensures value { result ≡ slice_index_or files.old (row - 1) (FileState.Unbound 0) }
     ensures files { files.new ≡ slice_set files.old (row - 1) next }
 {
-    let nothing = FileState::Unbound { generation: 0 };
-    let found = replace(files, alloc, place_of(row), nothing);
-    set(files, alloc, place_of(row), next);
+    let found = files.replace(row.place(), FileState::Unbound { generation: 0 });
+    files.set(row.place(), next);
     found
 }
 
 // The file that a row becomes. What it takes from home is gone there.
-fn begin_file(
-    world: &mut WorldState,
-    alloc: Global,
-    generation: u64,
-    origin: &Origin,
-    content: Bytes,
-) -> FileState
+fn begin_file(world: &mut WorldState, generation: u64, origin: &Origin, content: Bytes) -> FileState
     requires { content ≡ origin_content world.old.namespace.roms origin.now }
     ensures file { result ≡ bound_file world.old generation origin.now }
     ensures world { world.new
@@ -94,7 +71,7 @@ fn begin_file(
             generation,
             kind: Kind::Cell,
             capacity: cell_capacity(&world.namespace, *volume, *cell),
-            bytes: replace_cell(&mut world.homes.cells, alloc, *volume, *cell, content),
+            bytes: replace_cell(&mut world.homes.cells, *volume, *cell, content),
         },
         Origin::NewCell { volume, cell } => FileState::Bytes {
             generation,
@@ -103,7 +80,7 @@ fn begin_file(
             bytes: content,
         },
         Origin::Device { device } => {
-            let home = replace(&mut world.homes.devices, alloc, *device, no_home(alloc));
+            let home = take_home(&mut world.homes.devices, *device);
             FileState::Device {
                 generation,
                 input: home.input,
@@ -126,85 +103,84 @@ fn cell_capacity(namespace: &Namespace, volume: usize, cell: usize) -> u64
     }
 }
 
-fn no_home(alloc: Global) -> DeviceHome
+// Takes what a device has at home, where nothing is left.
+fn take_home(devices: &mut List<DeviceHome>, device: usize) -> DeviceHome
+    ensures value { result ≡ slice_index_or devices.old device (record { input = []; output = [] }) }
+    ensures devices { devices.new ≡ slice_set devices.old device (record { input = []; output = [] }) }
+{
+    let nothing = no_home(devices);
+    devices.replace(device, nothing)
+}
+
+// What a device has at home that has nothing there.
+fn no_home(devices: &List<DeviceHome>) -> DeviceHome
     ensures { result ≡ record { input = []; output = [] } }
 {
     DeviceHome {
-        input: Bytes::new(alloc),
-        output: Bytes::new(alloc),
+        input: devices.empty_like(),
+        output: devices.empty_like(),
     }
 }
 
 // Puts other bytes on a cell, and answers those that were there.
-#[tactic(auto, using(crate::proofs::PlaceLemmas::replacing))]
-fn replace_cell(
-    cells: &mut List<List<Bytes>>,
-    alloc: Global,
-    volume: usize,
-    cell: usize,
-    bytes: Bytes,
-) -> Bytes
+fn replace_cell(cells: &mut List<List<Bytes>>, volume: usize, cell: usize, bytes: Bytes) -> Bytes
     ensures value { result ≡ slice_index_or (slice_index_or cells.old volume []) cell bytes }
     ensures cells { cells.new
         ≡ slice_set cells.old volume (slice_set (slice_index_or cells.old volume []) cell bytes) }
 {
-    let mut of_volume = replace(cells, alloc, volume, List::new(alloc));
-    let found = replace(&mut of_volume, alloc, cell, bytes);
-    set(cells, alloc, volume, of_volume);
-    found
+    let volumes = cells.as_mut_slice();
+    if volumes.len() <= volume {
+        return bytes;
+    }
+    volumes[volume].replace(cell, bytes)
 }
 
 // Brings home what stays of a file that has come to its end.
-fn bring_home(homes: &mut Homes, alloc: Global, ended: FileState, end: &End)
+fn bring_home(homes: &mut Homes, ended: FileState, end: &End)
     ensures { homes.new ≡ homes_after_end homes.old ended end.now }
 {
     match end {
         End::Nothing | End::Spare { .. } => {}
         End::Kept { volume, cell } => {
-            let bytes = bytes_of(alloc, ended);
-            drop(replace_cell(&mut homes.cells, alloc, *volume, *cell, bytes));
+            let bytes = bytes_of(ended, homes.cells.empty_like());
+            drop(replace_cell(&mut homes.cells, *volume, *cell, bytes));
         }
         End::Device { device } => {
-            let home = home_of(alloc, ended);
-            set(&mut homes.devices, alloc, *device, home);
+            let home = home_of(ended, &homes.devices);
+            homes.devices.set(*device, home);
         }
     }
 }
 
-fn bytes_of(alloc: Global, file: FileState) -> Bytes
+// The bytes of a file in memory. Of another file they are the empty list that is handed in.
+fn bytes_of(file: FileState, nothing: Bytes) -> Bytes
+    requires { nothing ≡ [] }
     ensures { result ≡ bytes_of file }
 {
     match file {
         FileState::Bytes { bytes, .. } => bytes,
-        FileState::Unbound { .. } | FileState::Device { .. } => Bytes::new(alloc),
+        FileState::Unbound { .. } | FileState::Device { .. } => nothing,
     }
 }
 
-fn home_of(alloc: Global, file: FileState) -> DeviceHome
+// What a device brings home; of another file it is nothing.
+fn home_of(file: FileState, devices: &List<DeviceHome>) -> DeviceHome
     ensures { result ≡ home_of file }
 {
     match file {
         FileState::Device { input, output, .. } => DeviceHome { input, output },
-        FileState::Unbound { .. } | FileState::Bytes { .. } => no_home(alloc),
+        FileState::Unbound { .. } | FileState::Bytes { .. } => no_home(devices),
     }
 }
 
 /// Formats a volume: no bytes lie on its cells any more.
-#[tactic(auto, using(crate::proofs::PlaceLemmas::replacing))]
-pub fn empty_cells(homes: &mut Homes, alloc: Global, volume: usize)
+pub fn empty_cells(homes: &mut Homes, volume: usize)
     ensures { homes.new ≡ with_empty_cells homes.old volume }
 {
-    let mut cells = replace(&mut homes.cells, alloc, volume, List::new(alloc));
-    clear_cells(&mut cells, alloc);
-    set(&mut homes.cells, alloc, volume, cells);
-}
-
-fn clear_cells(cells: &mut List<Bytes>, alloc: Global)
-    ensures { cells.new ≡ map (λ bytes. []) cells.old }
-{
-    let mut items = mem::replace(cells, List::new(alloc)).into_vec();
-    clear_all(items.as_mut_slice());
-    *cells = List::from_vec(items);
+    let volumes = homes.cells.as_mut_slice();
+    if volume < volumes.len() {
+        clear_all(volumes[volume].as_mut_slice());
+    }
 }
 
 fn clear_all(cells: &mut [Bytes])

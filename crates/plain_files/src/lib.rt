@@ -6,12 +6,12 @@
 #![tactic(auto)]
 
 mod contents;
-pub mod flat;
 mod homes;
 mod moving;
 mod refusal;
 mod row;
 mod step;
+mod writing;
 
 pub use contents::origin_content;
 pub use homes::{bind_file, empty_cells, free_file};

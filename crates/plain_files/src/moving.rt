@@ -5,8 +5,8 @@ ghost use Rattle.vfs_model.specs.FileStep.{bytes_count, device_count, count_of, 
 ghost use Rattle.vfs_model.specs.FileMoves.{move, move_bytes, move_device};
 ghost use Rattle.plain_files.specs.Moving.{moved_bytes};
 
-use crate::flat::{cut_front, resize, write_at};
 use crate::refusal::file_refusals;
+use crate::writing::write_at;
 use std::alloc::Global;
 use vfs_base::{Bytes, Kind, NoMemory, Reply, Step, copy_bytes};
 use vfs_model::FileState;
@@ -118,12 +118,10 @@ fn move_bytes(
             off,
             bytes: piece,
             ..
-        } => write_bytes(bytes, alloc, *off, piece.as_slice(), count),
-        Step::Append { bytes: piece, .. } => {
-            write_bytes(bytes, alloc, size, piece.as_slice(), count)
-        }
+        } => write_bytes(bytes, *off, piece.as_slice(), count),
+        Step::Append { bytes: piece, .. } => { write_bytes(bytes, size, piece.as_slice(), count) }
         Step::Trunc { len, .. } => {
-            resize(bytes, alloc, *len)?;
+            bytes.resize(*len as usize, 0)?;
             Ok(Reply::Done)
         }
         _ => Ok(Reply::Done),
@@ -139,19 +137,13 @@ fn read_bytes(alloc: Global, bytes: &[u8], count: u64) -> Result<Reply, NoMemory
 }
 
 // Writes the first so many bytes of the piece at the offset.
-fn write_bytes(
-    bytes: &mut Bytes,
-    alloc: Global,
-    off: u64,
-    piece: &[u8],
-    count: u64,
-) -> Result<Reply, NoMemory>
+fn write_bytes(bytes: &mut Bytes, off: u64, piece: &[u8], count: u64) -> Result<Reply, NoMemory>
     requires { off + count < 2 ^ 64 }
     ensures reply { IfOk result (λ reply. reply ≡ Reply.Count count (off + count)) }
     ensures ok { OnOk result (bytes.new ≡ written_at off (take count piece.now) bytes.old) }
     ensures err { OnErr result (bytes.new ≡ bytes.old) }
 {
-    write_at(bytes, alloc, off, front(piece, count))?;
+    write_at(bytes, off, front(piece, count))?;
     Ok(Reply::Count {
         n: count,
         end: off + count,
@@ -173,7 +165,7 @@ fn move_device(
     match step {
         Step::Read { .. } => {
             let reply = read_bytes(alloc, input.as_slice(), count)?;
-            cut_front(input, alloc, count);
+            input.cut_front(count as usize);
             Ok(reply)
         }
         Step::Write { bytes: piece, .. } | Step::Append { bytes: piece, .. } => {

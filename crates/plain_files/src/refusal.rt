@@ -1,11 +1,10 @@
 //! What the steps of a file are refused with.
 
 ghost use Rattle.std.specs.Prelude.{◌≡◌, ◌+◌, nat_lt, length};
-ghost use Rattle.vfs_model.specs.Chain.{refuse◌when◌};
 ghost use Rattle.vfs_model.specs.FileStep.{file_refusals, bytes_refusals, device_refusals, absent_refusals, write_refusals, trunc_refusals, is_rom, is_cell, full_errno, is_of_generation, step_file};
 
 use vfs_base::{Errno, FileId, Kind, Step};
-use vfs_model::FileState;
+use vfs_model::{FileState, refuse_when};
 
 /// What a step of a file is refused with, if it is.
 #[tactic(auto, unfolding(vfs_model::specs::FileStep::file_refusals))]
@@ -60,12 +59,6 @@ fn is_of_generation(generation: u64, named: Option<FileId>) -> bool
         None => true,
         Some(file) => file.generation.number() == generation,
     }
-}
-
-fn refuse_when(errno: Errno, test: bool) -> Result<(), Errno>
-    ensures { result ≡ refuse errno when test }
-{
-    if test { Err(errno) } else { Ok(()) }
 }
 
 fn absent_refusals(step: &Step) -> Result<(), Errno>

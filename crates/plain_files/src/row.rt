@@ -5,7 +5,6 @@ ghost use Rattle.vfs_model.specs.FileMoves.{file_step, fits_file};
 ghost use Rattle.vfs_model.specs.Homes.{file_at};
 ghost use Rattle.vfs_model.specs.World.{file_part};
 
-use crate::flat::{replace, set};
 use crate::step::{fits_file, step_file};
 use std::alloc::Global;
 use vfs_base::{Mark, NoMemory, Reply, RowId, Step};
@@ -15,7 +14,7 @@ use vfs_model::{FileState, WorldState};
 pub fn fits_row(world: &WorldState, row: RowId, step: &Step, mark: Mark) -> bool
     ensures { result ≡ fits_file (file_at world.now row) step.now mark }
 {
-    match world.files.as_slice().get(row.number() as usize - 1) {
+    match world.files.as_slice().get(row.place()) {
         Some(file) => fits_file(file, step, mark),
         None => fits_file(&FileState::Unbound { generation: 0 }, step, mark),
     }
@@ -38,10 +37,10 @@ pub fn step_row(
         ≡ record { reply = reply; next = world.new }) }
     ensures err { OnErr result (world.new ≡ world.old) }
 {
-    let place = row.number() as usize - 1;
+    let place = row.place();
     let nothing = FileState::Unbound { generation: 0 };
-    let mut file = replace(&mut world.files, alloc, place, nothing);
+    let mut file = world.files.replace(place, nothing);
     let taken = step_file(&mut file, alloc, step, mark);
-    set(&mut world.files, alloc, place, file);
+    world.files.set(place, file);
     taken
 }

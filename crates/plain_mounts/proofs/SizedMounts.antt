@@ -30,11 +30,11 @@ use Rattle.vfs_model.specs.declared.namespace.Mount.{Mount}
 use Rattle.vfs_model.specs.declared.namespace.Namespace.{Namespace}
 use Rattle.vfs_model.specs.declared.namespace.Origin.{Origin}
 use Rattle.plain_nodes.specs.Changes.{row_change}
-use Rattle.plain_nodes.specs.Gives.{Gives}
+use Rattle.vfs_model.specs.Gives.{Gives}
 use Rattle.plain_mounts.specs.Mounting.{add_entries, free_count, with_mount}
 use Rattle.plain_nodes.specs.Sizes.{IsSized}
 use Rattle.plain_mounts.specs.declared.mounting.Mounted.{Mounted}
-use Rattle.plain_nodes.specs.declared.stop.Stop.{Stop}
+use Rattle.vfs_model.specs.declared.refusal.Stop.{Stop}
 use Rattle.plain_mounts.proofs.ContentSizes.{content_fits, free_few}
 use Rattle.plain_mounts.proofs.Numbers.{least_is_free}
 use Rattle.plain_nodes.proofs.Sized.{item_kept, or_second, put_grows, sized_bind, sized_tree}

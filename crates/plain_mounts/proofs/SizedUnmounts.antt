@@ -31,9 +31,9 @@ use Rattle.plain_nodes.specs.declared.changes.Change.{Change}
 use Rattle.plain_nodes.specs.declared.changes.Change.TheVariants as told
 use Rattle.plain_nodes.proofs.Sized.{filter_shrinks, item_kept, sized_freed, sized_tree}
 use Rattle.vfs_base.specs.declared.no_memory.NoMemory.{NoMemory}
-use Rattle.plain_nodes.specs.Gives.{Gives}
+use Rattle.vfs_model.specs.Gives.{Gives}
 use Rattle.plain_nodes.specs.Sizes.{IsSized}
-use Rattle.plain_nodes.specs.declared.stop.Stop.{Stop}
+use Rattle.vfs_model.specs.declared.refusal.Stop.{Stop}
 
 -- a volume of other names, or of other spare cells
 pub sized_volume : (n : Namespace) (place : ℕ) (volume : VolumeState) → IsSized n →

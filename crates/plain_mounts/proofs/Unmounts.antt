@@ -13,12 +13,12 @@ use Rattle.vfs_model.specs.NamespaceOutcome.{NamespaceOutcome}
 use Rattle.vfs_model.specs.UmountSteps.{is_busy, mount_at_point, remove_mount, umount_at, umount_step}
 use Rattle.vfs_model.specs.declared.namespace.Mount.{Mount}
 use Rattle.vfs_model.specs.declared.namespace.Namespace.{Namespace}
-use Rattle.plain_nodes.specs.Gives.{StopsAs}
+use Rattle.vfs_model.specs.Gives.{StopsAs}
 use Rattle.plain_mounts.specs.Leaving.{rows_so_far, TreesShrink}
 use Rattle.plain_mounts.specs.Unmounting.{HasRoom, umount_refusals}
 use Rattle.plain_mounts.specs.declared.leaving.Leaving.{Leaving}
-use Rattle.plain_nodes.specs.declared.stop.Stop.{Stop}
-use Rattle.plain_nodes.specs.declared.stop.Stop.TheVariants as stop
+use Rattle.vfs_model.specs.declared.refusal.Stop.{Stop}
+use Rattle.vfs_model.specs.declared.refusal.Stop.TheVariants as stop
 
 -- how a mount goes that may
 going : Namespace → Mount → Result NamespaceOutcome Errno

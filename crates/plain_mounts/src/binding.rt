@@ -11,7 +11,6 @@ use plain_nodes::changes::Change;
 use plain_nodes::rows::{bind_row, file_of, generation_at, least_free_row};
 use plain_nodes::sources::kind_of;
 use plain_nodes::trees::put_reserved;
-use std::alloc::Global;
 use vfs_base::{NodeKind, Path};
 use vfs_model::{Backing, LiveFile, Mount, Namespace, Origin};
 
@@ -19,7 +18,6 @@ use vfs_model::{Backing, LiveFile, Mount, Namespace, Origin};
 #[tactic(auto, using(crate::proofs::Binds::ready_for_one, crate::proofs::Binds::ready_for_later, crate::proofs::Brings::rest_brought))]
 pub fn add_entries(
     namespace: &mut Namespace,
-    alloc: Global,
     mount: &Mount,
     content: Content,
     tree: &mut Vec<(Path, NodeKind)>,
@@ -31,7 +29,7 @@ pub fn add_entries(
         ≡ rows_so_far (with_tree namespace.new mount.now.number tree.new.items) changes.new.items }
 {
     for (path, origin) in content.into_vec() {
-        add_entry(namespace, alloc, mount, path, origin, tree, changes);
+        add_entry(namespace, mount, path, origin, tree, changes);
     }
 }
 
@@ -39,7 +37,6 @@ pub fn add_entries(
 #[tactic(auto, using(crate::proofs::Binds::entry_put, crate::proofs::Brings::none_more))]
 fn add_entry(
     namespace: &mut Namespace,
-    alloc: Global,
     mount: &Mount,
     path: Path,
     origin: Option<Origin>,
@@ -62,7 +59,7 @@ fn add_entry(
     let _number = mount.number.number();
     match origin {
         None => put_reserved(tree, path, NodeKind::Dir),
-        Some(origin) => bind_content(namespace, alloc, mount, path, origin, tree, changes),
+        Some(origin) => bind_content(namespace, mount, path, origin, tree, changes),
     }
 }
 
@@ -70,7 +67,6 @@ fn add_entry(
 #[tactic(auto, using(crate::proofs::Binds::bound_so, crate::proofs::Binds::free_row_exists, crate::proofs::Binds::one_file, crate::proofs::Brings::one_more, crate::proofs::Binds::one_row_taken))]
 fn bind_content(
     namespace: &mut Namespace,
-    alloc: Global,
     mount: &Mount,
     path: Path,
     origin: Origin,
@@ -103,7 +99,7 @@ fn bind_content(
         mount: mount.number,
         backing: origin_backing(&origin),
     };
-    bind_row(namespace, alloc, row, life);
+    bind_row(namespace, row, life);
     changes.push_reserved(Change::Bind {
         row,
         generation,

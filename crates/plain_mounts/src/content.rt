@@ -148,7 +148,7 @@ fn put_device(
 {
     let mut path = Path::root(alloc);
     path.push(device.name.copy()?)?;
-    put_entry(content, alloc, path, Some(Origin::Device { device: place }))
+    put_entry(content, path, Some(Origin::Device { device: place }))
 }
 
 /// How many of the entries are files.

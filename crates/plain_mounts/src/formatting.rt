@@ -6,15 +6,13 @@ ghost use Rattle.vfs_base.specs.declared.reply.Reply.TheVariants as reply;
 ghost use Rattle.vfs_model.specs.FileLife.{no_volume, volume_named};
 ghost use Rattle.vfs_model.specs.Namespace.{same_bytes};
 ghost use Rattle.vfs_model.specs.UmountSteps.{format_volume, mkfs_step};
-ghost use Rattle.plain_nodes.specs.Gives.{Gives};
+ghost use Rattle.vfs_model.specs.Gives.{Gives};
 ghost use Rattle.plain_nodes.specs.Sizes.{IsSized};
 
 use plain_nodes::sources::{has_volume, is_mounted, volume_named};
-use plain_nodes::stop::{Stop, refuse_when};
 use std::alloc::Global;
-use std::mem;
 use vfs_base::{Bytes, Errno, FsType, List, NoMemory};
-use vfs_model::{Namespace, VolumeState};
+use vfs_model::{Namespace, Stop, VolumeState, refuse_when};
 
 /// Takes all names from a volume that no mount has, so that each of its cells is spare.
 ///
@@ -53,14 +51,11 @@ fn format_at(volumes: &mut List<VolumeState>, alloc: Global, place: usize) -> Re
         volumes.new ≡ slice_set volumes.old place (record volume { spare = replicate (length volume.pages) true; kept = [] })) }
     ensures err { OnErr result (volumes.new ≡ volumes.old) }
 {
-    let mut items = mem::replace(volumes, List::new(alloc)).into_vec();
-    let formatted = if place < items.len() {
-        format(&mut items[place], alloc)
-    } else {
-        Ok(())
-    };
-    *volumes = List::from_vec(items);
-    formatted
+    let volumes = volumes.as_mut_slice();
+    if volumes.len() <= place {
+        return Ok(());
+    }
+    format(&mut volumes[place], alloc)
 }
 
 fn format(volume: &mut VolumeState, alloc: Global) -> Result<(), NoMemory>

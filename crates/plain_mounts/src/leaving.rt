@@ -14,7 +14,6 @@ use plain_nodes::nodes::take_tree;
 use plain_nodes::rows::free_row;
 use plain_nodes::sources::volume_named;
 use std::alloc::Global;
-use std::mem;
 use vfs_base::{FsType, List, MountId, NoMemory, NodeKind, Path, ROWS, RowId};
 use vfs_model::{Backing, End, KeptNode, LiveFile, Mount, Namespace, Tree, VolumeState};
 
@@ -49,7 +48,6 @@ pub fn make_leaving(
 #[tactic(auto, unfolding(vfs_model::specs::UmountSteps::remove_mount))]
 pub fn remove_mount(
     namespace: &mut Namespace,
-    alloc: Global,
     mount: &Mount,
     room: Vec<(Path, KeptNode)>,
     changes: &mut Vec<Change>,
@@ -64,20 +62,18 @@ pub fn remove_mount(
     ensures trees { TreesShrink namespace.old namespace.new }
     ensures room { vec_len changes.new + live_count namespace.new ≤ vec_capacity changes.new }
 {
-    empty_mount(namespace, alloc, mount, room, changes);
-    drop_mount(&mut namespace.mounts, alloc, mount.number);
+    empty_mount(namespace, mount, room, changes);
+    drop_mount(&mut namespace.mounts, mount.number);
 }
 
-fn drop_mount(mounts: &mut List<Mount>, alloc: Global, number: MountId)
+fn drop_mount(mounts: &mut List<Mount>, number: MountId)
     ensures { mounts.new ≡ filter (λ other. not (other.number == number)) mounts.old }
 {
-    let mut items = mem::replace(mounts, List::new(alloc)).into_vec();
-    retain_others(&mut items, number.number());
-    *mounts = List::from_vec(items);
+    retain_others(mounts, number.number());
 }
 
-fn retain_others(mounts: &mut Vec<Mount>, number: u8)
-    ensures { mounts.new.items ≡ filter (λ other. not (other.number == number)) mounts.old.items }
+fn retain_others(mounts: &mut List<Mount>, number: u8)
+    ensures { mounts.new ≡ filter (λ other. not (other.number == number)) mounts.old }
 {
     mounts.retain(|other| !has_number(other, number));
 }
@@ -93,7 +89,6 @@ fn has_number(mount: &Mount, number: u8) -> bool
 #[tactic(auto, unfolding(vfs_model::specs::UmountSteps::empty_mount))]
 pub fn empty_mount(
     namespace: &mut Namespace,
-    alloc: Global,
     mount: &Mount,
     room: Vec<(Path, KeptNode)>,
     changes: &mut Vec<Change>,
@@ -108,35 +103,30 @@ pub fn empty_mount(
     ensures trees { TreesShrink namespace.old namespace.new }
     ensures room { vec_len changes.new + live_count namespace.new ≤ vec_capacity changes.new }
 {
-    clear_tree(namespace, alloc, mount, room);
-    free_rows_of(namespace, alloc, mount.number, changes);
+    clear_tree(namespace, mount, room);
+    free_rows_of(namespace, mount.number, changes);
 }
 
 // The mount has no nodes any more; a volume keeps their names.
-fn clear_tree(namespace: &mut Namespace, alloc: Global, mount: &Mount, room: Vec<(Path, KeptNode)>)
+fn clear_tree(namespace: &mut Namespace, mount: &Mount, room: Vec<(Path, KeptNode)>)
     requires empty { room.items ≡ [] }
     requires names { length (tree_of namespace.old mount.now.number) ≤ vec_capacity room }
     ensures next { namespace.new ≡ with_tree (keep_names namespace.old mount.now mount.now.fs) mount.now.number [] }
     ensures trees { TreesShrink namespace.old namespace.new }
 {
-    let tree = take_tree(namespace, alloc, mount.number);
+    let tree = take_tree(namespace, mount.number);
     match mount.fs {
         FsType::Cell => {
             let kept = kept_names(namespace, tree, room);
             let volume = volume_named(namespace, mount.source.as_slice());
-            set_kept(&mut namespace.volumes, alloc, volume, kept);
+            set_kept(&mut namespace.volumes, volume, kept);
         }
         FsType::Tmp | FsType::Rom | FsType::Dev => {}
     }
 }
 
 // Frees the files of the mount, by row.
-fn free_rows_of(
-    namespace: &mut Namespace,
-    alloc: Global,
-    number: MountId,
-    changes: &mut Vec<Change>,
-)
+fn free_rows_of(namespace: &mut Namespace, number: MountId, changes: &mut Vec<Change>)
     requires live_files { length namespace.old.live_files ≡ 1024 }
     requires room { vec_len changes.old + live_count namespace.old ≤ vec_capacity changes.old }
     ensures next { fold (free_row end_of_unmounted) (rows_so_far namespace.old changes.old.items) (rows_of_mount namespace.old number)
@@ -146,19 +136,13 @@ fn free_rows_of(
     ensures room { vec_len changes.new + live_count namespace.new ≤ vec_capacity changes.new }
 {
     for place in 0..ROWS {
-        free_if_of(namespace, alloc, number, place, changes);
+        free_if_of(namespace, number, place, changes);
     }
 }
 
 // Frees the row at this place, counted from 0, if its file is the mount's.
 #[tactic(auto, unfolding(vfs_model::specs::FileLife::free_row))]
-fn free_if_of(
-    namespace: &mut Namespace,
-    alloc: Global,
-    number: MountId,
-    place: u16,
-    changes: &mut Vec<Change>,
-)
+fn free_if_of(namespace: &mut Namespace, number: MountId, place: u16, changes: &mut Vec<Change>)
     requires place { place < 1024 }
     requires live_files { length namespace.old.live_files ≡ 1024 }
     requires room { vec_len changes.old + live_count namespace.old ≤ vec_capacity changes.old }
@@ -176,17 +160,13 @@ fn free_if_of(
         return;
     }
     let end = end_of_unmounted(namespace, row);
-    changes.push_reserved(free_row(namespace, alloc, row, end));
+    changes.push_reserved(free_row(namespace, row, end));
 }
 
 fn has_file_of(namespace: &Namespace, number: MountId, row: RowId) -> bool
     ensures { result ≡ is_of_mount number (life_at namespace.now row) }
 {
-    match namespace
-        .live_files
-        .as_slice()
-        .get(row.number() as usize - 1)
-    {
+    match namespace.live_files.as_slice().get(row.place()) {
         Some(life) => is_of_mount(number, life),
         None => false,
     }
@@ -215,11 +195,7 @@ fn kept_node(namespace: &Namespace, node: NodeKind) -> KeptNode
 fn cell_of_row(namespace: &Namespace, row: RowId) -> KeptNode
     ensures { result ≡ cell_of (backing_of (life_at namespace.now row)) }
 {
-    match namespace
-        .live_files
-        .as_slice()
-        .get(row.number() as usize - 1)
-    {
+    match namespace.live_files.as_slice().get(row.place()) {
         Some(Some(life)) => cell_of(&life.backing),
         Some(None) => KeptNode::Dir,
         None => KeptNode::Dir,
@@ -240,11 +216,7 @@ fn cell_of(backing: &Backing) -> KeptNode
 fn end_of_unmounted(namespace: &Namespace, row: RowId) -> End
     ensures { result ≡ end_of_unmounted (backing_of (life_at namespace.now row)) }
 {
-    match namespace
-        .live_files
-        .as_slice()
-        .get(row.number() as usize - 1)
-    {
+    match namespace.live_files.as_slice().get(row.place()) {
         Some(Some(life)) => end_of_backing(&life.backing),
         Some(None) => End::Nothing,
         None => End::Nothing,
@@ -281,18 +253,12 @@ fn kept_names(
 }
 
 // Gives the volume at this place other names to keep.
-pub fn set_kept(
-    volumes: &mut List<VolumeState>,
-    alloc: Global,
-    volume: usize,
-    kept: List<(Path, KeptNode)>,
-)
+pub fn set_kept(volumes: &mut List<VolumeState>, volume: usize, kept: List<(Path, KeptNode)>)
     ensures { volumes.new ≡ slice_set volumes.old volume
         (record (slice_index_or volumes.old volume no_volume) { kept = kept }) }
 {
-    let mut items = mem::replace(volumes, List::new(alloc)).into_vec();
-    if volume < items.len() {
-        items[volume].kept = kept;
+    let volumes = volumes.as_mut_slice();
+    if volume < volumes.len() {
+        volumes[volume].kept = kept;
     }
-    *volumes = List::from_vec(items);
 }

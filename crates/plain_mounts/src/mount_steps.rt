@@ -5,7 +5,7 @@ ghost use Rattle.vfs_model.specs.StepForms.{TellsFolder};
 ghost use Rattle.vfs_base.specs.declared.step.Step.TheVariants as step;
 ghost use Rattle.vfs_model.specs.NamespaceStep.{shutdown_step};
 ghost use Rattle.vfs_model.specs.World.{namespace_part};
-ghost use Rattle.plain_nodes.specs.Gives.{Gives};
+ghost use Rattle.vfs_model.specs.Gives.{Gives};
 ghost use Rattle.plain_nodes.specs.Sizes.{IsSized};
 ghost use Rattle.plain_nodes.specs.WorldAnswer.{leaving, world_answer};
 
@@ -15,10 +15,9 @@ use crate::unmounting::{umount, unmount_all};
 use plain_files::empty_cells;
 use plain_nodes::applying::{apply_all, apply_with};
 use plain_nodes::sources::volume_named;
-use plain_nodes::stop::Stop;
 use std::alloc::Global;
 use vfs_base::{Bytes, Errno, Mark, NoMemory, Reply, SessionId};
-use vfs_model::{Namespace, WorldState};
+use vfs_model::{Namespace, Stop, WorldState};
 
 /// Takes all names from a volume that no mount has, and drops the bytes on its cells.
 ///
@@ -37,7 +36,7 @@ pub fn mkfs_in(
 {
     mkfs(&mut world.namespace, alloc, name)?;
     let volume = volume_named(&world.namespace, name.as_slice());
-    empty_cells(&mut world.homes, alloc, volume);
+    empty_cells(&mut world.homes, volume);
     Ok(Reply::Done)
 }
 
@@ -71,7 +70,7 @@ pub fn mount_in(
         point,
         fs,
     )?;
-    apply_with(world, alloc, &changes, contents);
+    apply_with(world, &changes, contents);
     Ok(Reply::Done)
 }
 
@@ -94,7 +93,7 @@ pub fn umount_in(
     ensures sized { IsSized world.new.namespace }
 {
     let changes = umount(&mut world.namespace, alloc, session, point)?;
-    apply_all(world, alloc, &changes);
+    apply_all(world, &changes);
     Ok(Reply::Done)
 }
 
@@ -112,13 +111,13 @@ pub fn shut_down(world: &mut WorldState, alloc: Global, mark: Mark) -> Result<Re
     match mark {
         Mark::Clear => {
             let changes = unmount_all(&mut world.namespace, alloc)?;
-            apply_all(world, alloc, &changes);
+            apply_all(world, &changes);
             Ok(Reply::Done)
         }
         Mark::Fault { .. } => {
             let changes = unmount_all(&mut world.namespace, alloc)?;
             remember_stop(&mut world.namespace);
-            apply_all(world, alloc, &changes);
+            apply_all(world, &changes);
             Ok(Reply::Refused { errno: Errno::EIO })
         }
         Mark::NoMem { .. } => Ok(Reply::Refused {

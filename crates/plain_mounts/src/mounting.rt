@@ -11,7 +11,7 @@ ghost use Rattle.vfs_model.specs.MountStep.{add_mount, is_taken, is_without_sour
 ghost use Rattle.vfs_model.specs.Namespace.{all_mounts, same_bytes, tree_of};
 ghost use Rattle.vfs_model.specs.declared.namespace.RomImage.{RomImage as ModelRom};
 ghost use Rattle.plain_nodes.specs.Changes.{row_change};
-ghost use Rattle.plain_nodes.specs.Gives.{Gives};
+ghost use Rattle.vfs_model.specs.Gives.{Gives};
 ghost use Rattle.plain_nodes.specs.Contents.{contents_of};
 ghost use Rattle.plain_mounts.specs.Mounting.{brought_by, free_count, free_in, with_mount};
 ghost use Rattle.plain_nodes.specs.Sizes.{IsSized};
@@ -27,12 +27,11 @@ use plain_nodes::lookup::{
 use plain_nodes::nodes::{set_tree, take_tree};
 use plain_nodes::rows::is_free_row;
 use plain_nodes::sources::{has_volume, is_mounted, same_type, volume_named};
-use plain_nodes::stop::{Stop, refuse_by, refuse_when};
 use std::alloc::Global;
 use vfs_base::{
     Bytes, Errno, FsType, List, MOUNTS, MountId, Name, NoMemory, NodeKind, Path, SessionId,
 };
-use vfs_model::{LiveFile, Mount, Namespace, RomImage, VolumeState};
+use vfs_model::{LiveFile, Mount, Namespace, RomImage, Stop, VolumeState, refuse_by, refuse_when};
 
 /// Whether there is no such source.
 fn is_without_source(namespace: &Namespace, fs: FsType, source: &[u8]) -> bool
@@ -290,9 +289,9 @@ fn add_mount(
     ensures err { OnErr result (namespace.new ≡ namespace.old) }
 {
     let mut changes = room_for(alloc, content.len())?;
-    let mut tree = begin_mount(namespace, alloc, mount, content.len())?;
-    add_entries(namespace, alloc, mount, content, &mut tree, &mut changes);
-    set_tree(namespace, alloc, mount.number, List::from_vec(tree));
+    let mut tree = begin_mount(namespace, mount, content.len())?;
+    add_entries(namespace, mount, content, &mut tree, &mut changes);
+    set_tree(namespace, mount.number, List::from_vec(tree));
     Ok(List::from_vec(changes))
 }
 
@@ -307,7 +306,6 @@ fn room_for(alloc: Global, count: usize) -> Result<Vec<Change>, NoMemory>
 #[tactic(auto, using(plain_nodes::proofs::Sets::set_again, plain_nodes::proofs::Sets::set_back, crate::proofs::Starts::begun_so))]
 fn begin_mount(
     namespace: &mut Namespace,
-    alloc: Global,
     mount: &Mount,
     more: usize,
 ) -> Result<Vec<(Path, NodeKind)>, NoMemory>
@@ -317,13 +315,13 @@ fn begin_mount(
     ensures err { OnErr result (namespace.new ≡ namespace.old) }
 {
     let copy = copy_mount(mount)?;
-    let mut tree = take_tree(namespace, alloc, mount.number).into_vec();
+    let mut tree = take_tree(namespace, mount.number).into_vec();
     let pushed = push_mount(&mut namespace.mounts, &mut tree, more, copy);
     if pushed.is_err() {
-        set_tree(namespace, alloc, mount.number, List::from_vec(tree));
+        set_tree(namespace, mount.number, List::from_vec(tree));
         return Err(NoMemory);
     }
-    forget_kept(namespace, alloc, mount);
+    forget_kept(namespace, mount);
     Ok(tree)
 }
 
@@ -354,13 +352,14 @@ fn push_mount(
 }
 
 // A volume that is mounted keeps no names of its own.
-fn forget_kept(namespace: &mut Namespace, alloc: Global, mount: &Mount)
+fn forget_kept(namespace: &mut Namespace, mount: &Mount)
     ensures { namespace.new ≡ without_kept namespace.old mount.now.fs mount.now.source }
 {
     match mount.fs {
         FsType::Cell => {
             let volume = volume_named(namespace, mount.source.as_slice());
-            set_kept(&mut namespace.volumes, alloc, volume, List::new(alloc));
+            let nothing = namespace.volumes.empty_like();
+            set_kept(&mut namespace.volumes, volume, nothing);
         }
         FsType::Tmp | FsType::Rom | FsType::Dev => {}
     }

@@ -9,7 +9,7 @@ ghost use Rattle.vfs_model.specs.Lookup.{covering_mount, has_mount_below};
 ghost use Rattle.vfs_model.specs.Namespace.{same_path, tree_of};
 ghost use Rattle.vfs_model.specs.UmountSteps.{is_busy, mount_at_point, refers_to_mount, remove_all, remove_mount, umount_step};
 ghost use Rattle.plain_nodes.specs.Changes.{brings_no_bytes, row_change};
-ghost use Rattle.plain_nodes.specs.Gives.{Gives};
+ghost use Rattle.vfs_model.specs.Gives.{Gives};
 ghost use Rattle.plain_mounts.specs.Leaving.{live_count, rows_so_far, TreesShrink};
 ghost use Rattle.plain_nodes.specs.Sizes.{IsSized};
 ghost use Rattle.plain_mounts.specs.Unmounting.{HasRoom, umount_refusals};
@@ -18,11 +18,10 @@ use crate::leaving::{Leaving, empty_mount, make_leaving, remove_mount};
 use plain_nodes::asking::asked_path;
 use plain_nodes::changes::Change;
 use plain_nodes::lookup::{covering_mount, has_mount_below};
-use plain_nodes::stop::{Stop, refuse_when};
 use plain_nodes::trees::same_path;
 use std::alloc::Global;
 use vfs_base::{Bytes, Errno, List, MountId, Name, NoMemory, SessionId};
-use vfs_model::{Mount, Namespace, Reference};
+use vfs_model::{Mount, Namespace, Reference, Stop, refuse_when};
 
 /// Whether another mount lies below the mount, a reference names it, or a session's working
 /// directory lies in it.
@@ -112,7 +111,7 @@ fn unmount_point(
 {
     let Leaving { mount, room } = leaving_mount(namespace, alloc, session, point)?;
     let mut changes = room_for_changes(namespace, alloc)?;
-    remove_mount(namespace, alloc, &mount, room, &mut changes);
+    remove_mount(namespace, &mount, room, &mut changes);
     Ok(List::from_vec(changes))
 }
 
@@ -185,8 +184,8 @@ fn unmount_each(namespace: &mut Namespace, alloc: Global) -> Result<List<Change>
     let leaving = make_all_leaving(namespace, alloc)?;
     let Leaving { mount, room } = make_leaving(namespace, alloc, &namespace.root)?;
     let mut changes = room_for_changes(namespace, alloc)?;
-    remove_mounts(namespace, alloc, leaving, &mut changes);
-    empty_mount(namespace, alloc, &mount, room, &mut changes);
+    remove_mounts(namespace, leaving, &mut changes);
+    empty_mount(namespace, &mount, room, &mut changes);
     Ok(List::from_vec(changes))
 }
 
@@ -205,12 +204,7 @@ fn make_all_leaving(namespace: &Namespace, alloc: Global) -> Result<Vec<Leaving>
 
 // The mounts go, the last one first.
 #[tactic(auto, using(crate::proofs::Unmounts::last_has_room, crate::proofs::Unmounts::room_stays, crate::proofs::Unmounts::last_goes_first))]
-fn remove_mounts(
-    namespace: &mut Namespace,
-    alloc: Global,
-    mut leaving: Vec<Leaving>,
-    changes: &mut Vec<Change>,
-)
+fn remove_mounts(namespace: &mut Namespace, mut leaving: Vec<Leaving>, changes: &mut Vec<Change>)
     requires live_files { length namespace.old.live_files ≡ 1024 }
     requires names { AllAre (HasRoom namespace.old) leaving.items }
     requires room { vec_len changes.old + live_count namespace.old ≤ vec_capacity changes.old }
@@ -221,7 +215,7 @@ fn remove_mounts(
     ensures room { vec_len changes.new + live_count namespace.new ≤ vec_capacity changes.new }
 {
     while let Some(Leaving { mount, room }) = leaving.pop() {
-        remove_mount(namespace, alloc, &mount, room, changes);
+        remove_mount(namespace, &mount, room, changes);
     }
 }
 

@@ -1,22 +1,20 @@
 //! What is in a folder, and the working directories of sessions.
 
-ghost use Rattle.std.specs.Prelude.{◌≡◌, ◌≤◌, ◌∷◌, ◌++◌, [], Ok, OnOk, OnErr, IfOk, length};
+ghost use Rattle.std.specs.Prelude.{◌≡◌, ◌≤◌, ◌∷◌, ◌++◌, [], Ok, OnOk, OnErr, IfOk, length, slice_set};
 ghost use Rattle.vfs_base.specs.Path.{printed};
 ghost use Rattle.vfs_base.specs.declared.reply.Reply.TheVariants as reply;
 ghost use Rattle.vfs_model.specs.NameSteps.{chdir_step, cwd_step, entries_at, folder_refusals, home_step, is_entry_of, list_step};
 ghost use Rattle.vfs_model.specs.Namespace.{folder_of, with_folder_of};
-ghost use Rattle.plain_nodes.specs.Gives.{Gives};
+ghost use Rattle.vfs_model.specs.Gives.{Gives};
 ghost use Rattle.plain_names.specs.Listing.{entries_in};
 ghost use Rattle.plain_nodes.specs.Sizes.{IsSized};
 
-use plain_files::flat;
 use plain_nodes::asking::asked_path;
 use plain_nodes::lookup::{covering_mount, is_file, is_there, rest_of, tree_of, walk_refusal};
-use plain_nodes::stop::{Stop, refuse_by, refuse_when};
 use plain_nodes::trees::is_below;
 use std::alloc::Global;
 use vfs_base::{Bytes, Errno, List, ListEntry, Name, NoMemory, NodeKind, Path, SessionId};
-use vfs_model::Namespace;
+use vfs_model::{Namespace, Stop, refuse_by, refuse_when};
 
 /// The folder's path, and what is in it, in byte order of the names.
 pub fn list(
@@ -112,27 +110,37 @@ pub fn chdir(
     let path = asked_path(namespace, alloc, session, path)?;
     folder_refusals(namespace, path.as_names())?;
     let shown = path.copy()?;
-    set_folder(namespace, alloc, session, path);
+    set_folder(namespace, session, path);
     Ok(shown)
 }
 
 /// Makes `/` the session's working directory.
-pub fn home(namespace: &mut Namespace, alloc: Global, session: SessionId)
+#[tactic(auto, using(crate::proofs::SizedNames::sized_folder))]
+pub fn home(namespace: &mut Namespace, session: SessionId)
     ensures told { home_step namespace.old session
         ≡ Ok (record { reply = reply.Done; next = namespace.new; changes = [] }) }
     ensures sized { IsSized namespace.old → IsSized namespace.new }
 {
-    set_folder(namespace, alloc, session, Path::root(alloc));
+    clear_folder(&mut namespace.working_directories, session.place());
+}
+
+fn clear_folder(working_directories: &mut List<Path>, place: usize)
+    ensures { working_directories.new ≡ slice_set working_directories.old place [] }
+{
+    let folders = working_directories.as_mut_slice();
+    if place < folders.len() {
+        folders[place].clear();
+    }
 }
 
 #[tactic(auto, using(crate::proofs::SizedNames::sized_folder))]
-fn set_folder(namespace: &mut Namespace, alloc: Global, session: SessionId, path: Path)
+fn set_folder(namespace: &mut Namespace, session: SessionId, path: Path)
     requires { length (printed path) ≤ 1024 }
     ensures next { namespace.new ≡ with_folder_of namespace.old session path }
     ensures sized { IsSized namespace.old → IsSized namespace.new }
 {
-    let place = session.number() as usize - 1;
-    flat::set(&mut namespace.working_directories, alloc, place, path);
+    let place = session.place();
+    namespace.working_directories.set(place, path);
 }
 
 /// The session's working directory (POSIX.1-2017, getcwd).
@@ -141,7 +149,7 @@ pub fn cwd(namespace: &Namespace, alloc: Global, session: SessionId) -> Result<P
         ≡ Ok (record { reply = reply.At at; next = namespace.now; changes = [] })) }
     ensures short { IfOk result (λ at. IsSized namespace.now → length (printed at) ≤ 1024) }
 {
-    let place = session.number() as usize - 1;
+    let place = session.place();
     match namespace.working_directories.as_slice().get(place) {
         Some(folder) => folder.copy(),
         None => Ok(Path::root(alloc)),

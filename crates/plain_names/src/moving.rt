@@ -5,7 +5,7 @@ ghost use Rattle.vfs_base.specs.declared.reply.Reply.TheVariants as reply;
 ghost use Rattle.vfs_model.specs.Lookup.{covering_mount};
 ghost use Rattle.vfs_model.specs.RenameStep.{carried, left_behind, move_refusals, moved, put_entry, rename_refusals, rename_step, with_moved};
 ghost use Rattle.plain_nodes.specs.Changes.{brings_nothing, row_changes};
-ghost use Rattle.plain_nodes.specs.Gives.{Gives};
+ghost use Rattle.vfs_model.specs.Gives.{Gives};
 ghost use Rattle.plain_nodes.specs.Sizes.{IsSized};
 
 use crate::naming::free_lost;
@@ -17,11 +17,10 @@ use plain_nodes::lookup::{
 };
 use plain_nodes::nodes::set_tree;
 use plain_nodes::paths::{joined_path, path_of};
-use plain_nodes::stop::{Stop, refuse_by, refuse_when};
 use plain_nodes::trees::{is_below, is_prefix, put_entry, same_path};
 use std::alloc::Global;
 use vfs_base::{Bytes, Errno, List, Name, NoMemory, NodeKind, Path, SessionId};
-use vfs_model::{Namespace, Tree};
+use vfs_model::{Namespace, Stop, Tree, refuse_by, refuse_when};
 
 /// Moves a file, or a folder with all below it (POSIX.1-2017, rename). The row of a replaced file is
 /// freed unless a reference holds it.
@@ -47,7 +46,7 @@ pub fn rename(
     move_refusals(namespace, old.as_names(), new.as_names())?;
     let lost = node_at(namespace, new.as_names());
     move_nodes(namespace, alloc, old.as_names(), new.as_names())?;
-    Ok(free_lost(namespace, alloc, lost))
+    Ok(free_lost(namespace, lost))
 }
 
 #[tactic(auto, unfolding(vfs_model::specs::RenameStep::rename_refusals))]
@@ -111,7 +110,7 @@ fn move_nodes(
     let old = rest_of(namespace, old);
     let new = rest_of(namespace, new);
     let tree = moved(alloc, old, new, tree_of(namespace, number))?;
-    set_tree(namespace, alloc, number, tree);
+    set_tree(namespace, number, tree);
     Ok(())
 }
 
@@ -147,7 +146,7 @@ fn put_carried(
         return Ok(());
     }
     let below = names.get(old.len()..).unwrap_or(&[]);
-    put_entry(next, alloc, joined_path(alloc, new, below)?, entry.1)
+    put_entry(next, joined_path(alloc, new, below)?, entry.1)
 }
 
 // The nodes that stay where they are.

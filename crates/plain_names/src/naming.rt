@@ -6,7 +6,7 @@ ghost use Rattle.vfs_base.specs.declared.reply.Reply.TheVariants as reply;
 ghost use Rattle.vfs_model.specs.Lookup.{is_full};
 ghost use Rattle.vfs_model.specs.NameSteps.{after_loss, mkdir_refusals, mkdir_step, rmdir_refusals, rmdir_step, stat_step, unlink_refusals, unlink_step};
 ghost use Rattle.plain_nodes.specs.Changes.{brings_nothing, row_changes};
-ghost use Rattle.plain_nodes.specs.Gives.{Gives};
+ghost use Rattle.vfs_model.specs.Gives.{Gives};
 ghost use Rattle.plain_nodes.specs.Sizes.{IsSized};
 
 use plain_nodes::asking::asked_path;
@@ -17,10 +17,9 @@ use plain_nodes::lookup::{
 };
 use plain_nodes::nodes::{put_node, remove_node};
 use plain_nodes::rows::free_if_unused;
-use plain_nodes::stop::{Stop, refuse_by, refuse_when};
 use std::alloc::Global;
 use vfs_base::{Bytes, Errno, Name, NodeKind, SessionId};
-use vfs_model::Namespace;
+use vfs_model::{Namespace, Stop, refuse_by, refuse_when};
 
 /// What stands at the path (POSIX.1-2017, stat).
 pub fn stat(
@@ -77,7 +76,7 @@ pub fn rmdir(
 {
     let path = asked_path(namespace, alloc, session, path)?;
     rmdir_refusals(namespace, path.as_names())?;
-    remove_node(namespace, alloc, path.as_names());
+    remove_node(namespace, path.as_names());
     Ok(())
 }
 
@@ -110,8 +109,8 @@ pub fn unlink(
     let path = asked_path(namespace, alloc, session, path)?;
     unlink_refusals(namespace, path.as_names())?;
     let node = node_at(namespace, path.as_names());
-    remove_node(namespace, alloc, path.as_names());
-    Ok(free_lost(namespace, alloc, node))
+    remove_node(namespace, path.as_names());
+    Ok(free_lost(namespace, node))
 }
 
 #[tactic(auto, unfolding(vfs_model::specs::NameSteps::unlink_refusals))]
@@ -125,14 +124,14 @@ fn unlink_refusals(namespace: &Namespace, path: &[Name]) -> Result<(), Errno>
 }
 
 /// Frees the row of a file that has lost its place, unless the file is linked or held.
-pub fn free_lost(namespace: &mut Namespace, alloc: Global, node: Option<NodeKind>) -> Option<Change>
+pub fn free_lost(namespace: &mut Namespace, node: Option<NodeKind>) -> Option<Change>
     ensures next { after_loss namespace.old node
         ≡ record { next = namespace.new; changes = row_changes result } }
     ensures plain { brings_nothing result ≡ true }
     ensures sized { IsSized namespace.old → IsSized namespace.new }
 {
     match node {
-        Some(NodeKind::File { file, .. }) => free_if_unused(namespace, alloc, file.row),
+        Some(NodeKind::File { file, .. }) => free_if_unused(namespace, file.row),
         Some(NodeKind::Dir) => None,
         None => None,
     }

@@ -8,7 +8,7 @@ ghost use Rattle.vfs_model.specs.Namespace.{with_reference};
 ghost use Rattle.vfs_model.specs.OpenStep.{creates, least_free_number, open_at, for_reading, for_writing, has_no_room, is_exclusive, is_rom_node, is_without_cell, kind_of, least_spare_cell, make_file, new_backing, new_life, new_origin, open_refusals, open_step, truncates, with_file_at};
 ghost use Rattle.vfs_model.specs.StepForms.{TellsFolder};
 ghost use Rattle.plain_nodes.specs.Changes.{brings_no_bytes, brings_nothing, is_no_rom, row_change, row_changes};
-ghost use Rattle.plain_nodes.specs.Gives.{Gives};
+ghost use Rattle.vfs_model.specs.Gives.{Gives};
 ghost use Rattle.plain_nodes.specs.Sizes.{IsSized};
 
 use crate::references::{least_free_number, set_reference};
@@ -21,13 +21,14 @@ use plain_nodes::lookup::{
 use plain_nodes::nodes::put_node;
 use plain_nodes::rows::{bind_row, file_of, generation_at, least_free_row};
 use plain_nodes::sources::{kind_of, volume_named};
-use plain_nodes::stop::{Stop, refuse_by, refuse_when};
 use std::alloc::Global;
 use vfs_base::{
     Bytes, Errno, FileId, FsType, HOLDS, HoldId, Kind, Name, NoMemory, NodeKind, OpenFlags, Reply,
     SessionId,
 };
-use vfs_model::{Backing, LiveFile, Mount, Namespace, Origin, Reference, Role};
+use vfs_model::{
+    Backing, LiveFile, Mount, Namespace, Origin, Reference, Role, Stop, refuse_by, refuse_when,
+};
 
 /// Opens the file at the path (POSIX.1-2017, open). Where nothing stands there, it is made if the
 /// flags ask for that.
@@ -68,7 +69,7 @@ fn open_at(
     let change = make_missing(namespace, alloc, path)?;
     match node_at(namespace, path) {
         Some(NodeKind::File { file, kind }) => {
-            let hold = refer_to(namespace, alloc, session, path, &file, kind);
+            let hold = refer_to(namespace, session, path, &file, kind);
             Ok((Reply::Opened { hold, file, kind }, change))
         }
         Some(NodeKind::Dir) => Err(Stop::Refusal(Errno::EISDIR)),
@@ -229,7 +230,7 @@ fn make_file(namespace: &mut Namespace, alloc: Global, path: &[Name]) -> Result<
     let generation = generation_at(namespace, row) + 1;
     let file = file_of(row, generation);
     put_node(namespace, alloc, path, NodeKind::File { file, kind })?;
-    bind_row(namespace, alloc, row, life);
+    bind_row(namespace, row, life);
     Ok(Change::Bind {
         row,
         generation,
@@ -280,7 +281,6 @@ fn new_origin(backing: &Backing) -> Origin
 // Refers to the file at the path by the session's least number without a reference.
 fn refer_to(
     namespace: &mut Namespace,
-    alloc: Global,
     session: SessionId,
     path: &[Name],
     file: &FileId,
@@ -297,6 +297,6 @@ fn refer_to(
         kind,
         mount: covering_mount(namespace, path).number,
     };
-    set_reference(namespace, alloc, session, number, Some(reference));
+    set_reference(namespace, session, number, Some(reference));
     HoldId { session, number }
 }

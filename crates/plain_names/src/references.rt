@@ -8,16 +8,13 @@ ghost use Rattle.vfs_model.specs.Namespace.{references_of, with_reference};
 ghost use Rattle.vfs_model.specs.OpenStep.{least_free_number};
 ghost use Rattle.vfs_model.specs.ReferenceSteps.{give_up_step, in_role, is_device_kind, map_step, reference_at, same_role};
 ghost use Rattle.plain_nodes.specs.Changes.{brings_nothing, row_changes};
-ghost use Rattle.plain_nodes.specs.Gives.{Tells};
+ghost use Rattle.vfs_model.specs.Gives.{Tells};
 ghost use Rattle.plain_nodes.specs.Sizes.{IsSized};
 
-use plain_files::flat;
 use plain_nodes::changes::Change;
 use plain_nodes::rows::free_if_unused;
-use plain_nodes::stop::refuse_when;
-use std::alloc::Global;
 use vfs_base::{Errno, HOLDS, HoldId, Kind, RowId, SessionId};
-use vfs_model::{Namespace, Reference, Role};
+use vfs_model::{Namespace, Reference, Role, refuse_when};
 
 /// The references of a session by number, from 1 to 32.
 #[tactic(auto, using(std::proofs::lemmas::List::take_min))]
@@ -25,7 +22,7 @@ pub fn references_of(namespace: &Namespace, session: SessionId) -> &[Option<Refe
     ensures value { result.now ≡ references_of namespace.now session }
     ensures bound { length result.now ≤ 32 }
 {
-    let from = HOLDS * (session.number() as usize - 1);
+    let from = HOLDS * session.place();
     let later = namespace.references.as_slice().get(from..).unwrap_or(&[]);
     &later[..HOLDS.min(later.len())]
 }
@@ -57,7 +54,6 @@ fn first_empty(references: &[Option<Reference>]) -> u8
 #[tactic(auto, using(crate::proofs::SizedNames::sized_reference))]
 pub fn set_reference(
     namespace: &mut Namespace,
-    alloc: Global,
     session: SessionId,
     number: u8,
     reference: Option<Reference>,
@@ -65,9 +61,9 @@ pub fn set_reference(
     ensures next { namespace.new ≡ with_reference namespace.old session number reference }
     ensures sized { IsSized namespace.old → IsSized namespace.new }
 {
-    let first = HOLDS * (session.number() as usize - 1);
+    let first = HOLDS * session.place();
     let place = first + (number as usize).saturating_sub(1);
-    flat::set(&mut namespace.references, alloc, place, reference);
+    namespace.references.set(place, reference);
 }
 
 /// The reference of this role that the session has by this name, if it has one.
@@ -128,7 +124,6 @@ fn row_at(namespace: &Namespace, session: SessionId, hold: &HoldId, role: &Role)
 #[tactic(auto, unfolding(vfs_model::specs::ReferenceSteps::give_up_step))]
 pub fn give_up(
     namespace: &mut Namespace,
-    alloc: Global,
     session: SessionId,
     hold: &HoldId,
     role: &Role,
@@ -141,8 +136,8 @@ pub fn give_up(
     let Some(row) = row_at(namespace, session, hold, role) else {
         return Err(Errno::EBADF);
     };
-    set_reference(namespace, alloc, session, hold.number, None);
-    Ok(free_if_unused(namespace, alloc, row))
+    set_reference(namespace, session, hold.number, None);
+    Ok(free_if_unused(namespace, row))
 }
 
 /// Refers to an open file by a mapping (POSIX.1-2017, mmap, with shared pages).
@@ -150,12 +145,7 @@ pub fn give_up(
 /// It is refused with `EBADF` where the session has no such open file, with `ENODEV` for a character
 /// device, and with `EMFILE` where the session has 32 references.
 #[tactic(auto, unfolding(vfs_model::specs::ReferenceSteps::map_step))]
-pub fn map(
-    namespace: &mut Namespace,
-    alloc: Global,
-    session: SessionId,
-    hold: &HoldId,
-) -> Result<HoldId, Errno>
+pub fn map(namespace: &mut Namespace, session: SessionId, hold: &HoldId) -> Result<HoldId, Errno>
     ensures told { Tells (λ held. record { reply = reply.Held held; next = namespace.new; changes = [] }) result (map_step namespace.old session hold.now) }
     ensures err { OnErr result (namespace.new ≡ namespace.old) }
     ensures sized { IsSized namespace.old → IsSized namespace.new }
@@ -167,7 +157,7 @@ pub fn map(
     refuse_when(Errno::ENODEV, is_device_kind(mapping.kind))?;
     let number = least_free_number(namespace, session);
     refuse_when(Errno::EMFILE, HOLDS < number as usize)?;
-    set_reference(namespace, alloc, session, number, Some(mapping));
+    set_reference(namespace, session, number, Some(mapping));
     Ok(HoldId { session, number })
 }
 

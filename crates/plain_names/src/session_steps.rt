@@ -6,7 +6,7 @@
 ghost use Rattle.std.specs.Prelude.{◌≡◌, Ok, IfOk, OnErr};
 ghost use Rattle.vfs_model.specs.StepForms.{TellsFolder};
 ghost use Rattle.vfs_base.specs.declared.step.Step.TheVariants as step;
-ghost use Rattle.plain_nodes.specs.Gives.{Gives};
+ghost use Rattle.vfs_model.specs.Gives.{Gives};
 ghost use Rattle.plain_nodes.specs.Sizes.{IsSized};
 ghost use Rattle.plain_nodes.specs.WorldAnswer.{leaving, world_answer};
 
@@ -16,10 +16,9 @@ use crate::naming::{mkdir, rmdir, stat, unlink};
 use crate::opening::open;
 use crate::references::{give_up, map};
 use plain_nodes::applying::apply;
-use plain_nodes::stop::Stop;
 use std::alloc::Global;
 use vfs_base::{Bytes, HoldId, OpenFlags, Reply, SessionId};
-use vfs_model::{Role, WorldState};
+use vfs_model::{Role, Stop, WorldState};
 
 /// What stands at the path (POSIX.1-2017, stat).
 ///
@@ -121,7 +120,7 @@ pub fn unlink_in(
     ensures sized { IsSized world.old.namespace → IsSized world.new.namespace }
 {
     let change = unlink(&mut world.namespace, alloc, session, path)?;
-    apply(world, alloc, change);
+    apply(world, change);
     Ok(Reply::Done)
 }
 
@@ -147,7 +146,7 @@ pub fn rename_in(
     ensures sized { IsSized world.old.namespace → IsSized world.new.namespace }
 {
     let change = rename(&mut world.namespace, alloc, session, old, new)?;
-    apply(world, alloc, change);
+    apply(world, change);
     Ok(Reply::Done)
 }
 
@@ -172,12 +171,12 @@ pub fn chdir_in(
 }
 
 /// Makes `/` the session's working directory. Nothing refuses it.
-pub fn home_in(world: &mut WorldState, alloc: Global, session: SessionId) -> Reply
+pub fn home_in(world: &mut WorldState, session: SessionId) -> Reply
     ensures told { world_answer world.old session step.Home ≡ Ok (leaving world.new result) }
     ensures folder { TellsFolder result }
     ensures sized { IsSized world.old.namespace → IsSized world.new.namespace }
 {
-    home(&mut world.namespace, alloc, session);
+    home(&mut world.namespace, session);
     Reply::Done
 }
 
@@ -202,7 +201,7 @@ pub fn open_in(
     ensures sized { IsSized world.new.namespace }
 {
     let (reply, change) = open(&mut world.namespace, alloc, session, path, flags)?;
-    apply(world, alloc, change);
+    apply(world, change);
     Ok(reply)
 }
 
@@ -210,19 +209,14 @@ pub fn open_in(
 ///
 /// # Errors
 /// `EBADF` where the session has no such open file.
-pub fn close_in(
-    world: &mut WorldState,
-    alloc: Global,
-    session: SessionId,
-    hold: &HoldId,
-) -> Result<Reply, Stop>
+pub fn close_in(world: &mut WorldState, session: SessionId, hold: &HoldId) -> Result<Reply, Stop>
     ensures told { Gives (leaving world.new) result (world_answer world.old session (step.Close hold.now)) }
     ensures folder { IfOk result TellsFolder }
     ensures err { OnErr result (world.new ≡ world.old) }
     ensures sized { IsSized world.old.namespace → IsSized world.new.namespace }
 {
-    let change = give_up(&mut world.namespace, alloc, session, hold, &Role::Open)?;
-    apply(world, alloc, change);
+    let change = give_up(&mut world.namespace, session, hold, &Role::Open)?;
+    apply(world, change);
     Ok(Reply::Done)
 }
 
@@ -230,19 +224,14 @@ pub fn close_in(
 ///
 /// # Errors
 /// `EBADF` where the session has no such mapping.
-pub fn unmap_in(
-    world: &mut WorldState,
-    alloc: Global,
-    session: SessionId,
-    hold: &HoldId,
-) -> Result<Reply, Stop>
+pub fn unmap_in(world: &mut WorldState, session: SessionId, hold: &HoldId) -> Result<Reply, Stop>
     ensures told { Gives (leaving world.new) result (world_answer world.old session (step.Unmap hold.now)) }
     ensures folder { IfOk result TellsFolder }
     ensures err { OnErr result (world.new ≡ world.old) }
     ensures sized { IsSized world.old.namespace → IsSized world.new.namespace }
 {
-    let change = give_up(&mut world.namespace, alloc, session, hold, &Role::Map)?;
-    apply(world, alloc, change);
+    let change = give_up(&mut world.namespace, session, hold, &Role::Map)?;
+    apply(world, change);
     Ok(Reply::Done)
 }
 
@@ -251,17 +240,12 @@ pub fn unmap_in(
 /// # Errors
 /// `EBADF` where the session has no such open file; `ENODEV` for a character device; `EMFILE` for a
 /// session with 32 references.
-pub fn map_in(
-    world: &mut WorldState,
-    alloc: Global,
-    session: SessionId,
-    hold: &HoldId,
-) -> Result<Reply, Stop>
+pub fn map_in(world: &mut WorldState, session: SessionId, hold: &HoldId) -> Result<Reply, Stop>
     ensures told { Gives (leaving world.new) result (world_answer world.old session (step.Map hold.now)) }
     ensures folder { IfOk result TellsFolder }
     ensures err { OnErr result (world.new ≡ world.old) }
     ensures sized { IsSized world.old.namespace → IsSized world.new.namespace }
 {
-    let hold = map(&mut world.namespace, alloc, session, hold)?;
+    let hold = map(&mut world.namespace, session, hold)?;
     Ok(Reply::Held { hold })
 }

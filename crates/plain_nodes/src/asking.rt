@@ -5,12 +5,11 @@ ghost use Rattle.vfs_base.specs.Path.{printed};
 ghost use Rattle.vfs_model.specs.Lookup.{asked_path, or_errno};
 ghost use Rattle.vfs_model.specs.NormalPath.{normal_path};
 ghost use Rattle.vfs_model.specs.Namespace.{folder_of};
-ghost use Rattle.plain_nodes.specs.Gives.{Gives, is_itself};
+ghost use Rattle.vfs_model.specs.Gives.{Gives, is_itself};
 
-use crate::stop::Stop;
 use std::alloc::Global;
-use vfs_base::{Bytes, Errno, Path, SessionId};
-use vfs_model::Namespace;
+use vfs_base::{Bytes, Path, SessionId};
+use vfs_model::{Namespace, Stop};
 use vfs_path::{PathFault, normalise};
 
 /// The path that a session asks for by a text, from its working directory on.
@@ -27,7 +26,7 @@ pub fn asked_path(
     ensures told { Gives is_itself result (asked_path namespace.now session text.now) }
     ensures short { IfOk result (λ path. length (printed path) ≤ 1024) }
 {
-    let place = session.number() as usize - 1;
+    let place = session.place();
     match namespace.working_directories.as_slice().get(place) {
         Some(folder) => path_from(alloc, folder, text),
         None => path_from(alloc, &Path::root(alloc), text),
@@ -42,9 +41,6 @@ fn path_from(alloc: Global, folder: &Path, text: &Bytes) -> Result<Path, Stop>
     match normalise(alloc, folder, text.as_slice()) {
         Ok(path) => Ok(path),
         Err(PathFault::NoMemory) => Err(Stop::NoMemory),
-        Err(PathFault::Empty) => Err(Stop::Refusal(Errno::ENOENT)),
-        Err(PathFault::BadByte) => Err(Stop::Refusal(Errno::EINVAL)),
-        Err(PathFault::NameTooLong) => Err(Stop::Refusal(Errno::ENAMETOOLONG)),
-        Err(PathFault::PathTooLong) => Err(Stop::Refusal(Errno::ENAMETOOLONG)),
+        Err(fault) => Err(Stop::Refusal(fault.errno())),
     }
 }

@@ -13,5 +13,4 @@ pub mod nodes;
 pub mod paths;
 pub mod rows;
 pub mod sources;
-pub mod stop;
 pub mod trees;

@@ -11,33 +11,32 @@ ghost use Rattle.plain_nodes.specs.Sizes.{IsSized};
 use crate::lookup::{covering_mount, rest_of};
 use crate::paths::path_of;
 use crate::trees::{put_entry, remove_entry};
-use plain_files::flat;
 use std::alloc::Global;
-use vfs_base::{List, MountId, Name, NoMemory, NodeKind, Path};
+use vfs_base::{MountId, Name, NoMemory, NodeKind, Path};
 use vfs_model::{Namespace, Tree};
 
 /// Takes the tree of the mount with this number out of the namespace, which has no nodes there then.
-pub fn take_tree(namespace: &mut Namespace, alloc: Global, number: MountId) -> Tree
+pub fn take_tree(namespace: &mut Namespace, number: MountId) -> Tree
     ensures tree { result ≡ tree_of namespace.old number }
     ensures next { namespace.new ≡ with_tree namespace.old number [] }
 {
     let place = number.number() as usize;
-    flat::replace(&mut namespace.trees, alloc, place, List::new(alloc))
+    let nothing = namespace.trees.empty_like();
+    namespace.trees.replace(place, nothing)
 }
 
 /// Gives the mount with this number another tree.
-pub fn set_tree(namespace: &mut Namespace, alloc: Global, number: MountId, tree: Tree)
+pub fn set_tree(namespace: &mut Namespace, number: MountId, tree: Tree)
     ensures { namespace.new ≡ with_tree namespace.old number tree }
 {
     let place = number.number() as usize;
-    flat::set(&mut namespace.trees, alloc, place, tree);
+    namespace.trees.set(place, tree);
 }
 
 /// Puts a node into the tree of the mount with this number.
 #[tactic(auto, using(crate::proofs::Sets::set_again, crate::proofs::Sets::set_back))]
 pub fn put_in_tree(
     namespace: &mut Namespace,
-    alloc: Global,
     number: MountId,
     path: Path,
     node: NodeKind,
@@ -45,9 +44,9 @@ pub fn put_in_tree(
     ensures ok { OnOk result (namespace.new ≡ with_tree namespace.old number (put path_cmp path node (tree_of namespace.old number))) }
     ensures err { OnErr result (namespace.new ≡ namespace.old) }
 {
-    let mut tree = take_tree(namespace, alloc, number);
-    let put = put_entry(&mut tree, alloc, path, node);
-    set_tree(namespace, alloc, number, tree);
+    let mut tree = take_tree(namespace, number);
+    let put = put_entry(&mut tree, path, node);
+    set_tree(namespace, number, tree);
     put
 }
 
@@ -65,28 +64,28 @@ pub fn put_node(
 {
     let number = covering_mount(namespace, path).number;
     let rest = path_of(alloc, rest_of(namespace, path))?;
-    put_in_tree(namespace, alloc, number, rest, node)
+    put_in_tree(namespace, number, rest, node)
 }
 
 // Takes the node at the path out of the tree of the mount with this number.
 #[tactic(auto, using(crate::proofs::Sets::set_again))]
-fn remove_in_tree(namespace: &mut Namespace, alloc: Global, number: MountId, path: &[Name])
+fn remove_in_tree(namespace: &mut Namespace, number: MountId, path: &[Name])
     ensures next { namespace.new ≡ with_tree namespace.old number
         (filter (λ entry. not (same_path entry.0 path.now)) (tree_of namespace.old number)) }
     ensures sized { IsSized namespace.old → IsSized namespace.new }
 {
-    let mut tree = take_tree(namespace, alloc, number);
-    remove_entry(&mut tree, alloc, path);
-    set_tree(namespace, alloc, number, tree);
+    let mut tree = take_tree(namespace, number);
+    remove_entry(&mut tree, path);
+    set_tree(namespace, number, tree);
 }
 
 /// Takes the node at the path away.
 #[tactic(auto, unfolding(vfs_model::specs::NameSteps::without_node))]
-pub fn remove_node(namespace: &mut Namespace, alloc: Global, path: &[Name])
+pub fn remove_node(namespace: &mut Namespace, path: &[Name])
     ensures next { namespace.new ≡ without_node namespace.old path.now }
     ensures sized { IsSized namespace.old → IsSized namespace.new }
 {
     let number = covering_mount(namespace, path).number;
     let rest = rest_of(namespace, path);
-    remove_in_tree(namespace, alloc, number, rest);
+    remove_in_tree(namespace, number, rest);
 }

@@ -11,9 +11,6 @@ ghost use Rattle.plain_nodes.specs.Rows.{RowsMatch, first_free};
 ghost use Rattle.plain_nodes.specs.Sizes.{IsSized};
 
 use crate::changes::Change;
-use plain_files::flat;
-use std::alloc::Global;
-use std::mem;
 use vfs_base::{FileId, Generation, List, NodeKind, Path, ROWS, RowId};
 use vfs_model::{Backing, DeviceState, End, LiveFile, Namespace, Reference, VolumeState};
 
@@ -21,7 +18,7 @@ use vfs_model::{Backing, DeviceState, End, LiveFile, Namespace, Reference, Volum
 pub fn generation_at(namespace: &Namespace, row: RowId) -> u64
     ensures { result ≡ generation_at namespace.now row }
 {
-    let place = row.number() as usize - 1;
+    let place = row.place();
     match namespace.generations.as_slice().get(place) {
         Some(generation) => *generation,
         None => 0,
@@ -133,17 +130,17 @@ fn refers_to(row: RowId, reference: &Option<Reference>) -> bool
 
 /// Binds the row, which is free, to this live file.
 #[tactic(auto, using(crate::proofs::Sized::sized_bind), unfolding(vfs_model::specs::FileLife::bind_row))]
-pub fn bind_row(namespace: &mut Namespace, alloc: Global, row: RowId, life: LiveFile)
+pub fn bind_row(namespace: &mut Namespace, row: RowId, life: LiveFile)
     requires { generation_at namespace.old row < 18446744073709551615 }
     ensures next { namespace.new ≡ bind_row namespace.old row life }
     ensures sized { IsSized namespace.old → IsSized namespace.new }
 {
-    let place = row.number() as usize - 1;
+    let place = row.place();
     let generation = generation_at(namespace, row) + 1;
     let backing = copy_backing(&life.backing);
-    flat::set(&mut namespace.live_files, alloc, place, Some(life));
-    flat::set(&mut namespace.generations, alloc, place, generation);
-    take_backing(namespace, alloc, &backing);
+    namespace.live_files.set(place, Some(life));
+    namespace.generations.set(place, generation);
+    take_backing(namespace, &backing);
 }
 
 fn copy_backing(backing: &Backing) -> Backing
@@ -160,70 +157,62 @@ fn copy_backing(backing: &Backing) -> Backing
 }
 
 // A live file takes what it lies on.
-fn take_backing(namespace: &mut Namespace, alloc: Global, backing: &Backing)
+fn take_backing(namespace: &mut Namespace, backing: &Backing)
     ensures { namespace.new ≡ after_taking namespace.old backing.now }
 {
     match backing {
         Backing::Memory => {}
         Backing::Cell { volume, cell } => {
-            set_spare(&mut namespace.volumes, alloc, *volume, *cell, false);
+            set_spare(&mut namespace.volumes, *volume, *cell, false);
         }
-        Backing::Device { device } => set_out(&mut namespace.devices, alloc, *device, true),
+        Backing::Device { device } => set_out(&mut namespace.devices, *device, true),
     }
 }
 
 // What lay on something comes to its end.
-fn give_back(namespace: &mut Namespace, alloc: Global, end: &End)
+fn give_back(namespace: &mut Namespace, end: &End)
     ensures { namespace.new ≡ after_end namespace.old end.now }
 {
     match end {
         End::Nothing | End::Kept { .. } => {}
         End::Spare { volume, cell } => {
-            set_spare(&mut namespace.volumes, alloc, *volume, *cell, true);
+            set_spare(&mut namespace.volumes, *volume, *cell, true);
         }
-        End::Device { device } => set_out(&mut namespace.devices, alloc, *device, false),
+        End::Device { device } => set_out(&mut namespace.devices, *device, false),
     }
 }
 
-fn set_spare(
-    volumes: &mut List<VolumeState>,
-    alloc: Global,
-    volume: usize,
-    cell: usize,
-    is_spare: bool,
-)
+fn set_spare(volumes: &mut List<VolumeState>, volume: usize, cell: usize, is_spare: bool)
     ensures { volumes.new ≡ slice_set volumes.old volume
         (with_spare_cell is_spare cell (slice_index_or volumes.old volume no_volume)) }
 {
-    let mut items = mem::replace(volumes, List::new(alloc)).into_vec();
-    if volume < items.len() {
-        flat::set(&mut items[volume].spare, alloc, cell, is_spare);
+    let volumes = volumes.as_mut_slice();
+    if volume < volumes.len() {
+        volumes[volume].spare.set(cell, is_spare);
     }
-    *volumes = List::from_vec(items);
 }
 
-fn set_out(devices: &mut List<DeviceState>, alloc: Global, device: usize, is_out: bool)
+fn set_out(devices: &mut List<DeviceState>, device: usize, is_out: bool)
     ensures { devices.new ≡ slice_set devices.old device
         (record (slice_index_or devices.old device no_device) { is_out = is_out }) }
 {
-    let mut items = mem::replace(devices, List::new(alloc)).into_vec();
-    if device < items.len() {
-        items[device].is_out = is_out;
+    let devices = devices.as_mut_slice();
+    if device < devices.len() {
+        devices[device].is_out = is_out;
     }
-    *devices = List::from_vec(items);
 }
 
 /// Frees the row, whose file comes to this end. The row keeps its generation.
 #[tactic(auto, using(crate::proofs::Sized::sized_freed))]
-pub fn free_row(namespace: &mut Namespace, alloc: Global, row: RowId, end: End) -> Change
+pub fn free_row(namespace: &mut Namespace, row: RowId, end: End) -> Change
     ensures next { namespace.new ≡ freed namespace.old row end }
     ensures sized { IsSized namespace.old → IsSized namespace.new }
     ensures told { row_change result ≡ change.Free (file_of namespace.old row) end }
 {
     let generation = generation_at(namespace, row);
-    let place = row.number() as usize - 1;
-    flat::set(&mut namespace.live_files, alloc, place, None);
-    give_back(namespace, alloc, &end);
+    let place = row.place();
+    namespace.live_files.set(place, None);
+    give_back(namespace, &end);
     Change::Free {
         row,
         generation,
@@ -235,7 +224,7 @@ pub fn free_row(namespace: &mut Namespace, alloc: Global, row: RowId, end: End) 
 pub fn end_of_dropped(namespace: &Namespace, row: RowId) -> End
     ensures { result ≡ end_of_dropped (backing_of (life_at namespace.now row)) }
 {
-    let place = row.number() as usize - 1;
+    let place = row.place();
     match namespace.live_files.as_slice().get(place) {
         Some(Some(life)) => end_of_backing(&life.backing),
         Some(None) => End::Nothing,
@@ -258,7 +247,7 @@ fn end_of_backing(backing: &Backing) -> End
 
 /// Frees the row unless its file is linked or held.
 #[tactic(auto, unfolding(vfs_model::specs::FileLife::free_if_unused, vfs_model::specs::FileLife::free_row))]
-pub fn free_if_unused(namespace: &mut Namespace, alloc: Global, row: RowId) -> Option<Change>
+pub fn free_if_unused(namespace: &mut Namespace, row: RowId) -> Option<Change>
     ensures next { free_if_unused namespace.old row
         ≡ record { next = namespace.new; changes = row_changes result } }
     ensures plain { brings_nothing result ≡ true }
@@ -268,5 +257,5 @@ pub fn free_if_unused(namespace: &mut Namespace, alloc: Global, row: RowId) -> O
         return None;
     }
     let end = end_of_dropped(namespace, row);
-    Some(free_row(namespace, alloc, row, end))
+    Some(free_row(namespace, row, end))
 }

@@ -9,9 +9,7 @@ ghost use Rattle.vfs_model.specs.Lookup.{is_prefix, is_below, node_in};
 ghost use Rattle.vfs_model.specs.Namespace.{same_path};
 ghost use Rattle.plain_nodes.specs.Puts.{begins_with, comes_first};
 
-use std::alloc::Global;
 use std::cmp::Ordering;
-use std::mem;
 use vfs_base::{List, Name, NoMemory, NodeKind, Path};
 
 /// Whether the path is the front or lies below it.
@@ -66,28 +64,21 @@ pub fn has_below(tree: &[(Path, NodeKind)], path: &[Name]) -> bool
 }
 
 /// Puts a value at the path into entries in the order of paths, in place of the one that is there.
+#[tactic(auto, using(crate::proofs::Puts::put_as_insert, crate::proofs::Puts::put_as_set))]
 pub fn put_entry<V: Drop>(
     entries: &mut List<(Path, V)>,
-    alloc: Global,
     path: Path,
     value: V,
 ) -> Result<(), NoMemory>
     ensures ok { OnOk result (entries.new ≡ put path_cmp path value entries.old) }
     ensures err { OnErr result (entries.new ≡ entries.old) }
 {
-    let mut items = mem::replace(entries, List::new(alloc)).into_vec();
-    let put = put_item(&mut items, path, value);
-    *entries = List::from_vec(items);
-    put
-}
-
-fn put_item<V: Drop>(items: &mut Vec<(Path, V)>, path: Path, value: V) -> Result<(), NoMemory>
-    ensures ok { OnOk result (items.new.items ≡ put path_cmp path value items.old.items) }
-    ensures err { OnErr result (items.new.items ≡ items.old.items) }
-{
-    items.reserve(1)?;
-    put_reserved(items, path, value);
-    Ok(())
+    let place = place_of(&path, entries.as_slice());
+    if is_at(&path, entries.as_slice(), place) {
+        entries.set(place, (path, value));
+        return Ok(());
+    }
+    entries.insert(place, (path, value))
 }
 
 /// Puts a value at the path into entries in the order of paths, which have room for one more.
@@ -136,10 +127,8 @@ fn is_at<V>(path: &Path, entries: &[(Path, V)], place: usize) -> bool
 }
 
 /// Takes the entry at the path away, if there is one.
-pub fn remove_entry(entries: &mut List<(Path, NodeKind)>, alloc: Global, path: &[Name])
+pub fn remove_entry(entries: &mut List<(Path, NodeKind)>, path: &[Name])
     ensures { entries.new ≡ filter (λ entry. not (same_path entry.0 path.now)) entries.old }
 {
-    let mut items = mem::replace(entries, List::new(alloc)).into_vec();
-    items.retain(|entry| !same_path(entry.0.as_names(), path));
-    *entries = List::from_vec(items);
+    entries.retain(|entry| !same_path(entry.0.as_names(), path));
 }

@@ -3,16 +3,15 @@
 ghost use Rattle.std.specs.Prelude.{◌≡◌, IfOk};
 ghost use Rattle.vfs_model.specs.StepForms.{TellsFolder};
 ghost use Rattle.vfs_base.specs.declared.step.Step.TheVariants as step;
-ghost use Rattle.plain_nodes.specs.Gives.{Gives};
+ghost use Rattle.vfs_model.specs.Gives.{Gives};
 ghost use Rattle.plain_nodes.specs.Sizes.{IsSized};
 ghost use Rattle.plain_nodes.specs.WorldAnswer.{leaving, world_answer};
 
 use crate::holders::holder_lines;
 use crate::tables::{cell_files, device_lines, mount_lines};
-use plain_nodes::stop::Stop;
 use std::alloc::Global;
 use vfs_base::{Reply, SessionId};
-use vfs_model::WorldState;
+use vfs_model::{Stop, WorldState};
 
 /// The mounts in the order of mounting, `/` first, each with its numbers of nodes and of spare
 /// nodes or cells. Nothing refuses it.

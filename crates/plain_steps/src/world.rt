@@ -6,7 +6,7 @@ ghost use Rattle.vfs_model.specs.NamespaceStep.{fits_namespace, is_shutdown, nam
 ghost use Rattle.vfs_model.specs.ScriptRun.{first_bad_rom, rom_image};
 ghost use Rattle.vfs_model.specs.StepForms.{MayTake, TellsFolder};
 ghost use Rattle.vfs_model.specs.World.{FitsStep, fits_step, namespace_part, session_of, step_row, world_step};
-ghost use Rattle.plain_nodes.specs.Gives.{Gives};
+ghost use Rattle.vfs_model.specs.Gives.{Gives};
 ghost use Rattle.plain_steps.specs.Opening.{HasFewCellsEach, StopsOpening, is_untold};
 ghost use Rattle.plain_nodes.specs.Sizes.{IsSized};
 ghost use Rattle.plain_nodes.specs.WorldAnswer.{leaving, world_answer};
@@ -20,12 +20,11 @@ use plain_names::{
     chdir_in, close_in, cwd_in, home_in, list_in, map_in, mkdir_in, open_in, rename_in, rmdir_in,
     stat_in, unlink_in, unmap_in,
 };
-use plain_nodes::stop::Stop;
 use plain_reports::{cells_in, dentries_in, devices_in, mounts_in};
 use std::alloc::Global;
 use std::marker::Model;
 use vfs_base::{Deck, Describe, Errno, Mark, NoMemory, Reply, RowId, SessionId, Step, Who};
-use vfs_model::WorldState;
+use vfs_model::{Stop, WorldState};
 
 /// The plain world over flat lists: mounts, trees, files by row, and what lies at home.
 pub struct PlainWorld {
@@ -214,19 +213,19 @@ fn take_step(
     match step {
         Step::Stat { path } => stat_in(world, alloc, session, path),
         Step::Open { path, flags } => open_in(world, alloc, session, path, *flags),
-        Step::Close { hold } => close_in(world, alloc, session, hold),
+        Step::Close { hold } => close_in(world, session, hold),
         Step::Mkdir { path } => mkdir_in(world, alloc, session, path),
         Step::Rmdir { path } => rmdir_in(world, alloc, session, path),
         Step::Unlink { path } => unlink_in(world, alloc, session, path),
         Step::Rename { old, new } => rename_in(world, alloc, session, old, new),
         Step::List { path } => list_in(world, alloc, session, path),
         Step::Chdir { path } => chdir_in(world, alloc, session, path),
-        Step::Home => Ok(home_in(world, alloc, session)),
+        Step::Home => Ok(home_in(world, session)),
         Step::Cwd => cwd_in(world, alloc, session),
         Step::Mount { source, point, fs } => mount_in(world, alloc, session, source, point, fs),
         Step::Umount { point } => umount_in(world, alloc, session, point),
-        Step::Map { hold } => map_in(world, alloc, session, hold),
-        Step::Unmap { hold } => unmap_in(world, alloc, session, hold),
+        Step::Map { hold } => map_in(world, session, hold),
+        Step::Unmap { hold } => unmap_in(world, session, hold),
         Step::Mounts => mounts_in(world, alloc, session),
         Step::Dentries => dentries_in(world, alloc, session),
         Step::Cells => cells_in(world, alloc, session),

@@ -23,6 +23,7 @@ pub mod FileLife
 pub mod FileMoves
 pub mod FileStep
 pub mod FolderCommands
+pub mod Gives
 pub mod Holders
 pub mod Homes
 pub mod IoTotals

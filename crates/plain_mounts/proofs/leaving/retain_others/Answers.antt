@@ -6,4 +6,4 @@ use Rattle.plain_mounts.proofs.leaving.retain_others.Goals as goal
 
 pub returns : goal.returns
 returns c =
-    filter_same _ (λ (other : Mount). not (other.number == c.args.number)) _ (λ other kept f called. search rules) _ _ c.retain.ensures.filtered
+    filter_same _ (λ (other : Mount). not (other.number == c.args.number)) _ (λ other kept f called. search rules) _ _ c.retain.ensures

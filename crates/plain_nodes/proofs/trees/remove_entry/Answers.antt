@@ -6,5 +6,4 @@ use Rattle.plain_nodes.proofs.trees.remove_entry.Goals as goal
 
 pub returns : goal.returns
 returns c =
-    let kept = filter_same _ (λ entry. not (same_path entry.0 c.args.path.now)) _ (λ x b f k. search rules) _ _ c.retain.ensures.filtered in
-    cc (kept, c.from_vec.ensures, c.into_vec-items.ensures, c.replace.ensures.value)
+    filter_same _ (λ entry. not (same_path entry.0 c.args.path.now)) _ (λ x b f k. search rules) _ _ c.retain.ensures

@@ -1,5 +1,5 @@
 use Rattle.std.proofs.Common.{subst}
-use Rattle.plain_nodes.specs.Gives.{StopsAs}
+use Rattle.vfs_model.specs.Gives.{StopsAs}
 use Rattle.plain_nodes.specs.WorldAnswer.{world_answer}
 use Rattle.plain_steps.proofs.WorldSteps.{clear_done, clear_refused}
 use Rattle.plain_steps.proofs.world.session_step.Goals as goal

@@ -1,8 +1,8 @@
 -- What code answers against what a definition answers: want of memory alone is free.
 use Rattle.std.specs.Prelude.{◌≡◌, Result, Ok, Err}
 use Rattle.vfs_base.specs.declared.errno.Errno.{Errno}
-use Rattle.plain_nodes.specs.declared.stop.Stop.{Stop}
-use Rattle.plain_nodes.specs.declared.stop.Stop.TheVariants as stop
+use Rattle.vfs_model.specs.declared.refusal.Stop.{Stop}
+use Rattle.vfs_model.specs.declared.refusal.Stop.TheVariants as stop
 
 -- the definition refuses with the same error
 abbrev pub StopsAs : {Y : Type 0} → Stop → Result Y Errno → Type 0

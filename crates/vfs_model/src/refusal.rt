@@ -1,6 +1,8 @@
+//! The lines of a chain of refusals in code, and why a step is not taken.
+
 ghost use Rattle.std.specs.Prelude.{◌≡◌, false, OnOk};
 ghost use Rattle.vfs_model.specs.Chain.{refuse◌when◌, refuse_by};
-ghost use Rattle.plain_nodes.specs.declared.stop.Stop.TheVariants.{NoMemory as no_memory, Refusal as refusal};
+ghost use Rattle.vfs_model.specs.declared.refusal.Stop.TheVariants.{NoMemory as no_memory, Refusal as refusal};
 
 use thiserror::Error;
 use vfs_base::{Errno, NoMemory};
