@@ -7,6 +7,7 @@ ghost use Rattle.vfs_base.specs.Entry.{mark_text, who_text};
 use crate::ids::{RowId, SessionId};
 use crate::list::Bytes;
 use crate::no_memory::NoMemory;
+use itoa::Buffer;
 use std::alloc::Global;
 
 /// How a step came out.
@@ -44,8 +45,8 @@ pub struct Entry {
 pub fn push_number(out: &mut Bytes, alloc: Global, number: u64) -> Result<(), NoMemory>
     ensures { OnOk result (out.new ≡ out.old ++ decimal number) }
 {
-    let text = number.to_string(alloc)?;
-    out.extend_from_slice(text.as_bytes())
+    let mut digits = Buffer::new();
+    out.extend_from_slice(digits.format(number).as_bytes())
 }
 
 /// Appends how a step came out as a schedule shows it: nothing, `!n` or `mn`.
