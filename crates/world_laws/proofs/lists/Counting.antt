@@ -4,7 +4,7 @@ use Rattle.std.proofs.lemmas.List.Sums.{sum_by-cons}
 use Rattle.std.specs.List.{list_any}
 use Rattle.std.specs.Prelude.{count_by}
 use Rattle.vfs_model.specs.Boxes.{one_if}
-use Rattle.world_laws.proofs.Lists.{nor-first, nor-second, place-any}
+use Rattle.world_laws.proofs.lists.Lists.{nor-first, nor-second, place-any}
 
 -- a test fails of all where the count is 0
 pub none-count : {X : Type 0} (p : X → Bool) (xs : List X) → list_any p xs ≡ false → count_by p xs ≡ 0

@@ -1,7 +1,7 @@
 -- The places of what a filter keeps.
-use Rattle.std.proofs.Common.{◌≡◌, ℕ, zero, suc, ◌<◌, ◌≤◌, Bool, true, false, List, [], ◌∷◌, length, filter, slice_index_or, inl, inr, if◌then◌else◌, refl, sym, ap, ◌∙◌, arith}
+use Rattle.std.proofs.Common.{◌≡◌, ℕ, zero, suc, ◌<◌, Bool, true, false, List, [], ◌∷◌, length, filter, slice_index_or, inl, inr, if◌then◌else◌, refl, sym, ap, ◌∙◌, arith}
 use Rattle.vfs_model.specs.Consistency.{AllDiffer}
-use Rattle.world_laws.proofs.Lists.{below-or-past}
+use Rattle.world_laws.proofs.lists.Lists.{below-or-past}
 
 -- where an item that a filter keeps stood
 abbrev pub place_step : Bool → ℕ → (ℕ → ℕ) → ℕ
@@ -88,7 +88,7 @@ PassingDiffer {X} test value xs = (place other : ℕ) (d : X) → place < length
     value (slice_index_or xs place d) ≡ value (slice_index_or xs other d) → place ≡ other
 
 pub passing-differ : {X Y : Type 0} (test : X → Bool) (value : X → Y) (xs : List X) → AllDiffer value (filter test xs) → PassingDiffer test value xs
-passing-differ test value xs differ place other d l m h k e =
+passing-differ test value xs differ = λ place other d l m h k e.
     let a = kept-at test xs place d l h in
     let b = kept-at test xs other d m k in
     let one = (kept-within test xs a.at d a.within).1 ∙ ap (λ x. slice_index_or xs x d) a.is in
@@ -97,7 +97,7 @@ passing-differ test value xs differ place other d l m h k e =
     sym a.is ∙ ap (kept_place test xs) same ∙ b.is
 
 pub kept-differ : {X Y : Type 0} (test : X → Bool) (value : X → Y) (xs : List X) → PassingDiffer test value xs → AllDiffer value (filter test xs)
-kept-differ test value xs differ place other d l m e =
+kept-differ test value xs differ = λ place other d l m e.
     let a = kept-within test xs place d l in
     let b = kept-within test xs other d m in
     kept-apart test xs place other l m

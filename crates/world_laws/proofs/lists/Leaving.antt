@@ -1,5 +1,5 @@
 -- Lists that lose items, and counts that are at most one.
-use Rattle.std.proofs.Common.{◌≡◌, ℕ, zero, suc, ◌+◌, ◌-◌, ◌<◌, ◌≤◌, Bool, true, false, ◌||◌, T, Option, Some, None, List, [], ◌∷◌, length, map, filter, slice_index_or, slice_set, inl, inr, if◌then◌else◌, refl, sym, ap, subst, ◌∙◌, arith}
+use Rattle.std.proofs.Common.{◌≡◌, ℕ, zero, suc, ◌+◌, ◌-◌, ◌<◌, ◌≤◌, Bool, true, false, T, Option, Some, None, List, [], ◌∷◌, length, map, filter, slice_index_or, slice_set, inl, inr, if◌then◌else◌, refl, sym, ap, subst, ◌∙◌, arith}
 use Rattle.std.proofs.lemmas.List.{length-set}
 use Rattle.std.proofs.lemmas.List.Sums.{sum_by-cons}
 use Rattle.std.specs.FinMap.Entries.{below_all, find as value_at, is_sorted}
@@ -11,11 +11,11 @@ use Rattle.vfs_model.specs.Namespace.{life_at}
 use Rattle.vfs_model.specs.UmountSteps.{is_of_mount}
 use Rattle.vfs_model.specs.declared.namespace.LiveFile.{LiveFile}
 use Rattle.vfs_model.specs.declared.namespace.Namespace.{Namespace}
-use Rattle.world_laws.proofs.Counting.{count-place, none-count}
-use Rattle.world_laws.proofs.Emptying.{AllAbove, InRows, RowsLeft}
-use Rattle.world_laws.proofs.Lists.{any-node, below-none, below-or-past, first-there, later-there, nor-first, nor-second, place-any, same-or-other, set-there, t-first, t-second, true-or-false}
-use Rattle.world_laws.proofs.MountKeeping.{counted-place}
-use Rattle.world_laws.proofs.Taking.{count-set}
+use Rattle.world_laws.proofs.lists.Counting.{count-place, none-count}
+use Rattle.world_laws.proofs.parts.Emptying.{AllAbove, InRows, RowsLeft}
+use Rattle.world_laws.proofs.lists.Lists.{any-node, below-none, first-there, later-there, place-any, same-or-other, set-there, t-first, t-second, true-or-false}
+use Rattle.world_laws.proofs.steps.MountKeeping.{counted-place}
+use Rattle.world_laws.proofs.parts.Taking.{count-set}
 
 pub count-any : {X : Type 0} (p : X → Bool) (xs : List X) (d : X) → 0 < count_by p xs → list_any p xs ≡ true
 count-any p xs d l = let at = counted-place p xs d l in place-any p xs at.place d at.within at.holds

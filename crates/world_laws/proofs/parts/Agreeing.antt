@@ -26,10 +26,10 @@ use Rattle.vfs_model.specs.declared.world.FileState.{FileState}
 use Rattle.vfs_model.specs.declared.world.FileState.TheVariants as file
 use Rattle.vfs_model.specs.declared.world.Homes.{Homes}
 use Rattle.vfs_model.specs.declared.world.WorldState.{WorldState}
-use Rattle.world_laws.proofs.AtHome.{AtHome, MayEnd, cell-volume, empty-in, home-beside, home-emptied, home-ended, home-life, home-named, home-out, home-taken, no-cell, no-device, no-home-set}
-use Rattle.world_laws.proofs.Lists.{number-itself, same-or-other, set-here, set-there}
-use Rattle.world_laws.proofs.Passing.{and-both, and-second}
-use Rattle.world_laws.proofs.Taking.{set-at, with_life}
+use Rattle.world_laws.proofs.parts.AtHome.{AtHome, MayEnd, cell-volume, empty-in, home-beside, home-emptied, home-ended, home-life, home-named, home-out, home-taken, no-cell, no-device, no-home-set}
+use Rattle.world_laws.proofs.lists.Lists.{number-itself, same-or-other, set-here, set-there}
+use Rattle.world_laws.proofs.lists.Passing.{and-both, and-second}
+use Rattle.world_laws.proofs.parts.Taking.{set-at, with_life}
 
 -- the files of a world are those that the namespace says, and its cells hold what lies on them
 pub record FilesAgree (v : WorldState) (n : Namespace) : Type 0 where
@@ -53,11 +53,14 @@ files-beside v n m e g a = record {
   home = a.home;
 }
 
--- lives, generations, volumes and devices alone tell what agrees
-pub agrees-beside : (v : WorldState) (n m : Namespace) → n.live_files ≡ m.live_files → n.generations ≡ m.generations → n.volumes ≡ m.volumes → n.devices ≡ m.devices →
-    Agrees v n → Agrees v m
-agrees-beside v n m live_files generations volumes devices a =
-    record { files = files-beside v n m live_files generations a.files; homes = home-beside v.homes n m live_files volumes devices a.homes }
+-- lives, generations, volumes and devices are the same
+abbrev pub SameRows : Namespace → Namespace → Type 0
+SameRows n m = (n.live_files ≡ m.live_files) × (n.generations ≡ m.generations) × (n.volumes ≡ m.volumes) × (n.devices ≡ m.devices)
+
+-- they alone tell what agrees
+pub agrees-beside : (v : WorldState) (n m : Namespace) → SameRows n m → Agrees v n → Agrees v m
+agrees-beside v n m same a =
+    record { files = files-beside v n m same.0 same.1 a.files; homes = home-beside v.homes n m same.0 same.2 same.3 a.homes }
 
 -- and of a volume not the names that it keeps
 pub agrees-named : (v : WorldState) (n : Namespace) (volume : ℕ) (names : List (Path × KeptNode)) → Agrees v n → Agrees v (with_kept n volume names)
@@ -182,7 +185,7 @@ row-fits v n row other volume cell found f l m new old (inr e) h =
 bind-files : (v : WorldState) (n : Namespace) (row : ℕ) (life : LiveFile) (begins : Origin) → row - 1 < 1024 → length n.live_files ≡ 1024 → length n.generations ≡ 1024 → Begins life begins →
     FilesAgree v n → FilesAgree (change_row v (change.Bind (next_file n row) begins)) (bind_row n row life)
 unfolding bind_row
-bind-files v n row life begins l live_files generations b a =
+bind-files v n row life begins l live_files generations b = λ a.
     let f = bound_file v (generation_at n row + 1) begins in
     let in_files : row - 1 < length v.files = subst (λ x. row - 1 < x) (sym a.files) l in
     let in_live_files : row - 1 < length n.live_files = subst (λ x. row - 1 < x) (sym live_files) l in
@@ -243,7 +246,7 @@ bind-homes homes n row life generations (origin.Device d) b new a =
 pub bind-agrees : (v : WorldState) (n : Namespace) (row : ℕ) (life : LiveFile) (begins : Origin) → row - 1 < 1024 → length n.live_files ≡ 1024 → length n.generations ≡ 1024 → Begins life begins →
     IsNewSpare n begins → Agrees v n → Agrees (change_row v (change.Bind (next_file n row) begins)) (bind_row n row life)
 unfolding bind_row
-bind-agrees v n row life begins l live_files generations b new a = record {
+bind-agrees v n row life begins l live_files generations b = λ new a. record {
   files = bind-files v n row life begins l live_files generations b a.files;
   homes = bind-homes v.homes n row life (slice_set n.generations (row - 1) (generation_at n row + 1)) begins b new a.homes;
 }

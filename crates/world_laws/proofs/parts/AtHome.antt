@@ -1,5 +1,5 @@
 -- What lies at home fits a namespace, and goes on doing so where both change.
-use Rattle.std.proofs.Common.{◌≡◌, ◌≢◌, ℕ, zero, suc, ◌-◌, ◌<◌, ◌≤◌, Bool, true, false, Option, Some, None, List, [], ◌∷◌, length, slice_index_or, slice_set, ◌⊎◌, inl, inr, refl, sym, ap, subst, ◌∙◌}
+use Rattle.std.proofs.Common.{◌≡◌, ◌≢◌, ℕ, zero, suc, ◌-◌, ◌<◌, Bool, true, false, Option, None, List, [], ◌∷◌, length, slice_index_or, slice_set, ◌⊎◌, inl, inr, refl, sym, ap, subst, ◌∙◌}
 use Rattle.std.proofs.lemmas.List.{length-set, set_past}
 use Rattle.vfs_base.specs.Path.{Path}
 use Rattle.vfs_model.specs.FileLife.{after_end, after_taking, backing_of, no_device, no_volume, volume_at, with_cell, with_device, with_kept, with_spare_cell}
@@ -17,9 +17,9 @@ use Rattle.vfs_model.specs.declared.namespace.VolumeState.{VolumeState}
 use Rattle.vfs_model.specs.declared.world.DeviceHome.{DeviceHome}
 use Rattle.vfs_model.specs.declared.world.FileState.{FileState}
 use Rattle.vfs_model.specs.declared.world.Homes.{Homes}
-use Rattle.world_laws.proofs.Binding.{out-other, this-or-other}
-use Rattle.world_laws.proofs.Lists.{below-or-past, same-or-other, set-here, set-there}
-use Rattle.world_laws.proofs.Taking.{cell-pages, set-at, spare-other, with_life}
+use Rattle.world_laws.proofs.parts.Binding.{out-other, this-or-other}
+use Rattle.world_laws.proofs.lists.Lists.{below-or-past, same-or-other, set-here, set-there}
+use Rattle.world_laws.proofs.parts.Taking.{cell-pages, set-at, spare-other, with_life}
 
 -- a place for each cell and each device; nothing lies on a cell that a row has or that is spare, and nothing is at home
 -- of a device that is out

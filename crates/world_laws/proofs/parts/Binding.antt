@@ -20,11 +20,11 @@ use Rattle.vfs_model.specs.declared.namespace.LiveFile.{LiveFile}
 use Rattle.vfs_model.specs.declared.namespace.Mount.{Mount}
 use Rattle.vfs_model.specs.declared.namespace.Namespace.{Namespace}
 use Rattle.vfs_model.specs.declared.namespace.VolumeState.{VolumeState}
-use Rattle.world_laws.proofs.Beside.{working_directories-beside, live-beside}
-use Rattle.world_laws.proofs.Lists.{number-itself, other-number, same-or-other, same-some, set-here, set-there}
-use Rattle.world_laws.proofs.Passing.{and-both}
-use Rattle.world_laws.proofs.Standing.{IsUsed, NamespaceSizes, Nothing, Only, Stands}
-use Rattle.world_laws.proofs.Taking.{BoxesBut, CellsPlaced, DevicesPlaced, boxes-all, boxes-but, but-cell, but-device, but-life, cell-files, cell-named, cell-pages, count-set, set-at, spare-here, spare-other, with_life}
+use Rattle.world_laws.proofs.parts.Beside.{working_directories-beside, live-beside}
+use Rattle.world_laws.proofs.lists.Lists.{number-itself, other-number, same-or-other, same-some, set-here, set-there}
+use Rattle.world_laws.proofs.lists.Passing.{and-both}
+use Rattle.world_laws.proofs.parts.Standing.{IsUsed, NamespaceSizes, Nothing, Only, Stands}
+use Rattle.world_laws.proofs.parts.Taking.{BoxesBut, CellsPlaced, DevicesPlaced, boxes-all, boxes-but, but-cell, but-device, but-life, cell-files, cell-named, cell-pages, count-set, set-at, spare-here, spare-other, with_life}
 
 -- what a row may take: nothing, a spare cell, or a device that is at home
 abbrev pub IsFreeBacking : Namespace → Backing → Type 0

@@ -17,11 +17,11 @@ use Rattle.vfs_model.specs.Lookup.{covering_mount, has_nodes, is_below, is_point
 use Rattle.vfs_model.specs.Namespace.{all_mounts, same_path, tree_of}
 use Rattle.vfs_model.specs.declared.namespace.Mount.{Mount}
 use Rattle.vfs_model.specs.declared.namespace.Namespace.{Namespace}
-use Rattle.world_laws.proofs.Covering.{IsMount, covering-is, covers-longest, covers-prefix, one-point, prefix-length, prefix-trans, same-prefix, splits}
-use Rattle.world_laws.proofs.Lists.{AnyPlace, any-place, below-or-past, place-any, true-or-false}
-use Rattle.world_laws.proofs.Nodes.{tree_at, prefix-itself}
-use Rattle.world_laws.proofs.Points.{first-or-later, one-later, point-covers, point-not-root}
-use Rattle.world_laws.proofs.TreeParts.{at-node}
+use Rattle.world_laws.proofs.parts.Covering.{IsMount, covering-is, covers-longest, covers-prefix, one-point, prefix-length, prefix-trans, same-prefix, splits}
+use Rattle.world_laws.proofs.lists.Lists.{AnyPlace, any-place, below-or-past, place-any, true-or-false}
+use Rattle.world_laws.proofs.parts.Nodes.{tree_at, prefix-itself}
+use Rattle.world_laws.proofs.parts.Points.{first-or-later, one-later, point-covers, point-not-root}
+use Rattle.world_laws.proofs.parts.TreeParts.{at-node}
 
 -- one that passes is kept by a filter
 kept-has : (test : Mount → Bool) (x : Mount) (xs : List Mount) (found : Mount) (b : Bool) → test x ≡ b → test found ≡ true → (IsOneOf xs found → IsOneOf (filter test xs) found) →

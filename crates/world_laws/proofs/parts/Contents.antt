@@ -21,8 +21,8 @@ use Rattle.vfs_model.specs.declared.namespace.Origin.{Origin}
 use Rattle.vfs_model.specs.declared.namespace.Origin.TheVariants as origin
 use Rattle.vfs_model.specs.declared.namespace.RomNode.{RomNode}
 use Rattle.vfs_model.specs.declared.namespace.RomNode.TheVariants as rom
-use Rattle.world_laws.proofs.Filling.{content_shape}
-use Rattle.world_laws.proofs.Lists.{or-either}
+use Rattle.world_laws.proofs.steps.Filling.{content_shape}
+use Rattle.world_laws.proofs.lists.Lists.{or-either}
 
 -- a content is a tree: no root, folders above, at most 4096 nodes
 pub record IsTree (content : Content) : Type 0 where

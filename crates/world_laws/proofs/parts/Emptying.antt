@@ -16,15 +16,15 @@ use Rattle.vfs_model.specs.declared.namespace.Namespace.{Namespace}
 use Rattle.vfs_model.specs.declared.namespace.RowChange.{RowChange}
 use Rattle.vfs_model.specs.declared.namespace.RowChange.TheVariants as change
 use Rattle.vfs_model.specs.declared.world.WorldState.{WorldState}
-use Rattle.world_laws.proofs.Agreeing.{Agrees, free-agrees}
-use Rattle.world_laws.proofs.AtHome.{IsAlone, MayEnd, no-cell}
-use Rattle.world_laws.proofs.Beside.{working_directories-beside}
-use Rattle.world_laws.proofs.Binding.{Rest, out-here, out-other, own-cell, rest-beside}
-use Rattle.world_laws.proofs.Counting.{count-place}
-use Rattle.world_laws.proofs.Freeing.{alive-freed, backed-by, cells-freed, devices-freed, without_life}
-use Rattle.world_laws.proofs.Lists.{number-itself, other-number, same-number, same-or-other, set-here, set-there, some-within}
-use Rattle.world_laws.proofs.Standing.{Held, IsUsed, Linked, LinkedIn}
-use Rattle.world_laws.proofs.Taking.{BoxesBut, DevicesPlaced, but-device, but-life, count-set}
+use Rattle.world_laws.proofs.parts.Agreeing.{Agrees, free-agrees}
+use Rattle.world_laws.proofs.parts.AtHome.{IsAlone, MayEnd, no-cell}
+use Rattle.world_laws.proofs.parts.Beside.{working_directories-beside}
+use Rattle.world_laws.proofs.parts.Binding.{Rest, out-here, out-other, own-cell, rest-beside}
+use Rattle.world_laws.proofs.lists.Counting.{count-place}
+use Rattle.world_laws.proofs.parts.Freeing.{alive-freed, backed-by, cells-freed, devices-freed, without_life}
+use Rattle.world_laws.proofs.lists.Lists.{number-itself, other-number, same-number, same-or-other, set-here, set-there, some-within}
+use Rattle.world_laws.proofs.parts.Standing.{Held, IsUsed, Linked, LinkedIn}
+use Rattle.world_laws.proofs.parts.Taking.{BoxesBut, DevicesPlaced, but-device, but-life, count-set}
 
 -- a row is one of the list
 abbrev pub InRows : List ℕ → ℕ → Type 0
@@ -288,7 +288,7 @@ not-one true h = absurd (omega (arith, h))
 not-one false h = refl
 
 alone-of : (number : ℕ) (m : Namespace) (row : ℕ) (rows : List ℕ) (volume cell : ℕ) → Empty number m (row ∷ rows) → backing_of (life_at m row) ≡ backing.Cell volume cell → IsAlone m row volume cell
-alone-of number m row rows volume cell f e v c =
+alone-of number m row rows volume cell f e = λ v c.
     let within : row - 1 < length m.live_files = live-within m.live_files (row - 1) volume cell e in
     let most = f.lone volume cell v c in
     let counted = count-set (is_backed_by (lies_on_cell volume cell)) m.live_files (row - 1) None None within in

@@ -18,7 +18,7 @@ use Rattle.vfs_model.specs.FileStep.{bytes_count, absent_refusals, bytes_refusal
 use Rattle.vfs_model.specs.declared.namespace.LiveFile.{LiveFile}
 use Rattle.vfs_model.specs.declared.world.FileState.{FileState}
 use Rattle.vfs_model.specs.declared.world.FileState.TheVariants as file
-use Rattle.world_laws.proofs.Passing.{and-both, and-first, and-second, either-passed, refuse-passed, then-rest}
+use Rattle.world_laws.proofs.lists.Passing.{and-both, and-first, and-second, either-passed, refuse-passed, then-rest}
 
 length-cut : (len : ℕ) (bytes : List ℕ) → length (cut_or_padded len bytes) ≡ len
 length-cut len bytes =

@@ -10,9 +10,9 @@ use Rattle.vfs_model.specs.Namespace.{generation_at}
 use Rattle.vfs_model.specs.declared.namespace.Backing.{Backing}
 use Rattle.vfs_model.specs.declared.namespace.LiveFile.{LiveFile}
 use Rattle.vfs_model.specs.declared.namespace.Namespace.{Namespace}
-use Rattle.world_laws.proofs.Binding.{next_generations}
-use Rattle.world_laws.proofs.OpenKeeping.{FreeRow, free-at, taken-live_files}
-use Rattle.world_laws.proofs.Taking.{count-set, with_life}
+use Rattle.world_laws.proofs.parts.Binding.{next_generations}
+use Rattle.world_laws.proofs.steps.OpenKeeping.{FreeRow, free-at, taken-live_files}
+use Rattle.world_laws.proofs.parts.Taking.{count-set, with_life}
 use Rattle.std.proofs.lemmas.Slice.Zip.{length-zip}
 use Rattle.std.specs.Prelude.{min}
 

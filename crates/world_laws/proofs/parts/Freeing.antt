@@ -12,11 +12,11 @@ use Rattle.vfs_model.specs.declared.namespace.Backing.{Backing}
 use Rattle.vfs_model.specs.declared.namespace.Backing.TheVariants as backing
 use Rattle.vfs_model.specs.declared.namespace.LiveFile.{LiveFile}
 use Rattle.vfs_model.specs.declared.namespace.Namespace.{Namespace}
-use Rattle.world_laws.proofs.Beside.{working_directories-beside}
-use Rattle.world_laws.proofs.Binding.{Rest, rest-beside, rest-stands, apart-cell, live_files-cell, live_files-set, out-here, out-other, own-cell, this-or-other}
-use Rattle.world_laws.proofs.Lists.{number-itself, other-number, same-or-other, set-here, set-there}
-use Rattle.world_laws.proofs.Standing.{Held, IsUsed, Linked, Nothing, Only, Stands, unused-not, used-again}
-use Rattle.world_laws.proofs.Taking.{BoxesBut, CellsPlaced, DevicesPlaced, boxes-all, boxes-but, but-cell, but-device, but-life, cell-files, cell-pages, count-set, spare-here, spare-other, with_life}
+use Rattle.world_laws.proofs.parts.Beside.{working_directories-beside}
+use Rattle.world_laws.proofs.parts.Binding.{Rest, rest-beside, rest-stands, apart-cell, live_files-cell, live_files-set, out-here, out-other, own-cell, this-or-other}
+use Rattle.world_laws.proofs.lists.Lists.{number-itself, other-number, same-or-other, set-here, set-there}
+use Rattle.world_laws.proofs.parts.Standing.{Held, IsUsed, Linked, Nothing, Only, Stands, unused-not, used-again}
+use Rattle.world_laws.proofs.parts.Taking.{BoxesBut, CellsPlaced, DevicesPlaced, boxes-all, boxes-but, but-cell, but-device, but-life, cell-files, cell-pages, count-set, spare-here, spare-other, with_life}
 
 -- the row is free, and its generation is as before
 abbrev pub without_life : Namespace → ℕ → Namespace

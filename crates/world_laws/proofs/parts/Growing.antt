@@ -12,10 +12,10 @@ use Rattle.vfs_model.specs.Lookup.{is_below, is_dir_node, is_folder, node_in, wi
 use Rattle.vfs_model.specs.Namespace.{Tree, folder_of, tree_of}
 use Rattle.vfs_model.specs.declared.namespace.Mount.{Mount}
 use Rattle.vfs_model.specs.declared.namespace.Namespace.{Namespace}
-use Rattle.world_laws.proofs.Beside.{alive-beside, boxes-beside}
-use Rattle.world_laws.proofs.Lists.{same-or-other, set-here, set-there}
-use Rattle.world_laws.proofs.Standing.{IsUsed, Stands}
-use Rattle.world_laws.proofs.Taking.{set-at}
+use Rattle.world_laws.proofs.parts.Beside.{alive-beside, boxes-beside}
+use Rattle.world_laws.proofs.lists.Lists.{same-or-other, set-here, set-there}
+use Rattle.world_laws.proofs.parts.Standing.{IsUsed, Stands}
+use Rattle.world_laws.proofs.parts.Taking.{set-at}
 
 -- a tree as what a mount's number may have, in place of the one there is
 pub record MayStand (n : Namespace) (number : ℕ) (tree : Tree) : Type 0 where

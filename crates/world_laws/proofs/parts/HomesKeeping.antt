@@ -1,5 +1,5 @@
 -- What lies at home fits where the world is consistent, and the other way round.
-use Rattle.std.proofs.Common.{◌≡◌, ℕ, zero, suc, ◌+◌, ◌-◌, ◌<◌, ◌≤◌, Bool, true, false, Option, Some, None, List, [], ◌∷◌, length, map, replicate, slice_index_or, slice_set, inl, inr, refl, sym, ap, subst, ◌∙◌, arith}
+use Rattle.std.proofs.Common.{◌≡◌, ℕ, zero, suc, ◌+◌, ◌-◌, ◌<◌, Bool, true, false, Option, Some, None, List, [], ◌∷◌, length, map, replicate, slice_index_or, slice_set, inl, inr, refl, sym, ap, subst, ◌∙◌, arith}
 use Rattle.std.proofs.lemmas.List.{get_or_past, length-map, length-set}
 use Rattle.std.specs.List.{list_any}
 use Rattle.std.specs.Prelude.{count_by}
@@ -13,13 +13,13 @@ use Rattle.vfs_model.specs.declared.namespace.LiveFile.{LiveFile}
 use Rattle.vfs_model.specs.declared.namespace.Namespace.{Namespace}
 use Rattle.vfs_model.specs.declared.world.Homes.{Homes}
 use Rattle.vfs_model.specs.declared.world.WorldState.{WorldState}
-use Rattle.world_laws.proofs.AtHome.{AtHome}
-use Rattle.world_laws.proofs.Counting.{count-place, none-count, some-count}
-use Rattle.world_laws.proofs.Emptying.{backed, live-within}
-use Rattle.world_laws.proofs.Lists.{below-or-past, same-or-other, set-there, true-or-false}
-use Rattle.world_laws.proofs.MountKeeping.{counted-place}
-use Rattle.world_laws.proofs.Taking.{set-at}
-use Rattle.world_laws.proofs.Vacating.{on-cell}
+use Rattle.world_laws.proofs.parts.AtHome.{AtHome}
+use Rattle.world_laws.proofs.lists.Counting.{count-place, none-count, some-count}
+use Rattle.world_laws.proofs.parts.Emptying.{backed, live-within}
+use Rattle.world_laws.proofs.lists.Lists.{below-or-past, same-or-other, set-there, true-or-false}
+use Rattle.world_laws.proofs.steps.MountKeeping.{counted-place}
+use Rattle.world_laws.proofs.parts.Taking.{set-at}
+use Rattle.world_laws.proofs.steps.Vacating.{on-cell}
 
 -- what is said of the bytes on a cell is said of the cells that there are
 bytes-inside : (homes : Homes) (n : Namespace) (volume cell : ℕ) → length homes.cells ≡ length n.volumes → length (slice_index_or homes.cells volume []) ≡ length (volume_at n volume).pages →

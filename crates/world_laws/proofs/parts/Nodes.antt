@@ -19,12 +19,12 @@ use Rattle.vfs_model.specs.Lookup.{covering_mount, is_below, is_dir_node, is_fol
 use Rattle.vfs_model.specs.Namespace.{Tree, all_mounts, folder_of, tree_of}
 use Rattle.vfs_model.specs.declared.namespace.Mount.{Mount}
 use Rattle.vfs_model.specs.declared.namespace.Namespace.{Namespace}
-use Rattle.world_laws.proofs.Covering.{covering-is, covers-front, splits, walked}
-use Rattle.world_laws.proofs.Growing.{MayStand, tree-other, tree-own, tree-stands}
-use Rattle.world_laws.proofs.Lists.{same-or-other, place-any, number-itself}
-use Rattle.world_laws.proofs.Points.{point-apart}
-use Rattle.world_laws.proofs.Standing.{IsUsed, Linked, Nothing, Only, Stands}
-use Rattle.world_laws.proofs.TreeParts.{LastName, at-node, named, not-empty, put-closed, put-none, same-or-other-path}
+use Rattle.world_laws.proofs.parts.Covering.{covering-is, covers-front, splits, walked}
+use Rattle.world_laws.proofs.parts.Growing.{MayStand, tree-other, tree-own, tree-stands}
+use Rattle.world_laws.proofs.lists.Lists.{same-or-other, place-any, number-itself}
+use Rattle.world_laws.proofs.parts.Points.{point-apart}
+use Rattle.world_laws.proofs.parts.Standing.{IsUsed, Linked, Nothing, Only, Stands}
+use Rattle.world_laws.proofs.parts.TreeParts.{LastName, at-node, named, not-empty, put-closed, put-none, same-or-other-path}
 
 -- the number and the tree of the mount that covers a path
 abbrev pub number_at : Namespace → Path → ℕ

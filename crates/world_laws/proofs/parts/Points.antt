@@ -9,8 +9,8 @@ use Rattle.vfs_model.specs.Lookup.{covering_mount, is_prefix, rest_of}
 use Rattle.vfs_model.specs.Namespace.{same_path}
 use Rattle.vfs_model.specs.declared.namespace.Mount.{Mount}
 use Rattle.vfs_model.specs.declared.namespace.Namespace.{Namespace}
-use Rattle.world_laws.proofs.Covering.{IsMount, any-default, covering-is, covers-longest, one-number, prefix-append-both, splits}
-use Rattle.world_laws.proofs.Lists.{true-or-false}
+use Rattle.world_laws.proofs.parts.Covering.{IsMount, any-default, covering-is, covers-longest, one-number, prefix-append-both, splits}
+use Rattle.world_laws.proofs.lists.Lists.{true-or-false}
 
 pub one-later : (x : Mount) (xs : List Mount) (found : Mount) → IsOneOf xs found → IsOneOf (x ∷ xs) found
 one-later x xs found (place, l, h) = (suc place, omega (arith, l), h)

@@ -7,9 +7,9 @@ use Rattle.vfs_model.specs.Lookup.{covering_mount, is_folder, node_at}
 use Rattle.vfs_model.specs.Namespace.{with_folder_of}
 use Rattle.vfs_model.specs.declared.namespace.Namespace.{Namespace}
 use Rattle.vfs_model.specs.declared.namespace.Reference.{Reference}
-use Rattle.world_laws.proofs.Beside.{alive-beside, boxes-beside, working_directories-beside, live-beside}
-use Rattle.world_laws.proofs.Lists.{below-or-past, same-or-other, same-some, set-here, set-there}
-use Rattle.world_laws.proofs.Standing.{Held, IsUsed, NamespaceSizes, Nothing, Only, Stands}
+use Rattle.world_laws.proofs.parts.Beside.{alive-beside, boxes-beside, working_directories-beside, live-beside}
+use Rattle.world_laws.proofs.lists.Lists.{below-or-past, same-or-other, same-some, set-here, set-there}
+use Rattle.world_laws.proofs.parts.Standing.{Held, IsUsed, NamespaceSizes, Nothing, Only, Stands}
 
 -- what holds of a new item, and held of the old ones, holds at each place of the list
 pub set-keeps : {X : Type 0} (P : X → Type 0) (xs : List X) (place other : ℕ) (x d : X) → P x → P (slice_index_or xs other d) → P (slice_index_or (slice_set xs place x) other d)

@@ -16,12 +16,12 @@ use Rattle.vfs_model.specs.NameSteps.{without_node}
 use Rattle.vfs_model.specs.Namespace.{folder_of, same_path, tree_of}
 use Rattle.vfs_model.specs.declared.namespace.Mount.{Mount}
 use Rattle.vfs_model.specs.declared.namespace.Namespace.{Namespace}
-use Rattle.world_laws.proofs.Growing.{MayStand, tree-other, tree-own, tree-stands}
-use Rattle.world_laws.proofs.Lists.{same-or-other}
-use Rattle.world_laws.proofs.Nodes.{covering-number, number_at, prefix-itself, tree_at}
-use Rattle.world_laws.proofs.Points.{point-apart}
-use Rattle.world_laws.proofs.Standing.{IsUsed, Linked, Nothing, Only, Stands}
-use Rattle.world_laws.proofs.TreeParts.{filter-none, same-or-other-path, without, without-closed}
+use Rattle.world_laws.proofs.parts.Growing.{MayStand, tree-other, tree-own, tree-stands}
+use Rattle.world_laws.proofs.lists.Lists.{same-or-other}
+use Rattle.world_laws.proofs.parts.Nodes.{covering-number, number_at, prefix-itself, tree_at}
+use Rattle.world_laws.proofs.parts.Points.{point-apart}
+use Rattle.world_laws.proofs.parts.Standing.{IsUsed, Linked, Nothing, Only, Stands}
+use Rattle.world_laws.proofs.parts.TreeParts.{filter-none, same-or-other-path, without, without-closed}
 
 -- a node below its mount's point, without children, and no session's working directory
 pub record MayGo (n : Namespace) (p : Path) : Type 0 where

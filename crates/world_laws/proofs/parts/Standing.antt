@@ -15,7 +15,7 @@ use Rattle.vfs_model.specs.Namespace.{Tree, generation_at, life_at, tree_of}
 use Rattle.vfs_model.specs.declared.namespace.Namespace.{Namespace}
 use Rattle.vfs_model.specs.declared.namespace.Reference.{Reference}
 use Rattle.vfs_model.specs.declared.world.WorldState.{WorldState}
-use Rattle.world_laws.proofs.Lists.{any-node, any-place, node-any, or-either, or-first, or-second, place-any, same-number, number-itself, some-within, below-or-past}
+use Rattle.world_laws.proofs.lists.Lists.{any-node, any-place, node-any, or-either, or-first, or-second, place-any, same-number, number-itself, some-within, below-or-past}
 use Rattle.std.proofs.lemmas.List.{get_or_past}
 
 -- the file of the row stands somewhere in these trees

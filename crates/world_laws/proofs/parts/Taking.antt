@@ -6,15 +6,14 @@ use Rattle.std.proofs.lemmas.List.Sums.{sum_by-set}
 use Rattle.std.specs.Prelude.{count_by}
 use Rattle.vfs_model.specs.Boxes.{BoxesPlaced, cell_files, fits_kind, is_backed_by, is_cell_mount, is_kept_dir, is_kept_on, lies_on_cell, lies_on_device, one_if}
 use Rattle.vfs_model.specs.Consistency.{IsClosedTree}
-use Rattle.vfs_model.specs.Content.{is_mounted, same_type}
+use Rattle.vfs_model.specs.Content.{is_mounted}
 use Rattle.vfs_model.specs.FileLife.{no_device, no_volume, volume_at, volume_named, with_cell, with_device, with_spare_cell}
 use Rattle.vfs_model.specs.Namespace.{all_mounts, life_at, same_bytes}
 use Rattle.vfs_base.specs.declared.kinds.FsType.TheVariants as fs
 use Rattle.vfs_model.specs.declared.namespace.LiveFile.{LiveFile}
-use Rattle.vfs_model.specs.declared.namespace.Mount.{Mount}
 use Rattle.vfs_model.specs.declared.namespace.Namespace.{Namespace}
-use Rattle.world_laws.proofs.Filters.{PassingDiffer, kept-differ, passing-differ}
-use Rattle.world_laws.proofs.Lists.{below-or-past, same-or-other, set-here, set-there}
+use Rattle.world_laws.proofs.lists.Filters.{PassingDiffer, kept-differ, passing-differ}
+use Rattle.world_laws.proofs.lists.Lists.{below-or-past, same-or-other, set-here, set-there}
 
 -- what holds of a new item at its place, and held of the old ones, holds at each place of the list
 pub set-at : {X : Type 0} (P : X → Type 0) (xs : List X) (place other : ℕ) (x d : X) → (other ≡ place → P x) → P (slice_index_or xs other d) → P (slice_index_or (slice_set xs place x) other d)

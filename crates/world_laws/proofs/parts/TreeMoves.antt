@@ -14,9 +14,9 @@ use Rattle.vfs_model.specs.Consistency.{IsClosedTree}
 use Rattle.vfs_model.specs.Lookup.{is_below, is_dir_node, is_prefix, node_in}
 use Rattle.vfs_model.specs.Namespace.{Tree, same_path}
 use Rattle.vfs_model.specs.RenameStep.{carried, left_behind, moved, put_entry}
-use Rattle.world_laws.proofs.Covering.{prefix-length, prefix-through, same-prefix}
-use Rattle.world_laws.proofs.Lists.{below-or-past, or-first, true-or-false}
-use Rattle.world_laws.proofs.TreeParts.{LastName, front-dir, named, not-empty, same-front, same-or-other-path}
+use Rattle.world_laws.proofs.parts.Covering.{prefix-length, prefix-through, same-prefix}
+use Rattle.world_laws.proofs.lists.Lists.{below-or-past, or-first, true-or-false}
+use Rattle.world_laws.proofs.parts.TreeParts.{LastName, front-dir, named, not-empty, same-front, same-or-other-path}
 
 -- a move of old with all below it to new, in one tree
 pub record MayMove (old new : Path) (tree : Tree) : Type 0 where

@@ -11,7 +11,7 @@ use Rattle.vfs_model.proofs.Trees.{at-put-other, at-without-here, at-without-oth
 use Rattle.vfs_model.specs.Consistency.{IsClosedTree}
 use Rattle.vfs_model.specs.Lookup.{is_dir_node, node_in}
 use Rattle.vfs_model.specs.Namespace.{Tree, same_path}
-use Rattle.world_laws.proofs.Lists.{neither, nor-first, nor-second, or-first, or-second, true-or-false}
+use Rattle.world_laws.proofs.lists.Lists.{neither, nor-first, nor-second, or-first, or-second, true-or-false}
 
 pub same-or-other-path : (p q : Path) → (p ≡ q) ⊎ (p ≢ q)
 same-or-other-path p q = elim (true-or-false (same_path p q)) [

@@ -19,11 +19,11 @@ use Rattle.vfs_model.specs.Lookup.{covering_mount, has_nodes, is_below, is_dir_n
 use Rattle.vfs_model.specs.Namespace.{all_mounts, folder_of, same_path, tree_of}
 use Rattle.vfs_model.specs.declared.namespace.Mount.{Mount}
 use Rattle.vfs_model.specs.declared.namespace.Namespace.{Namespace}
-use Rattle.world_laws.proofs.Beside.{alive-beside}
-use Rattle.world_laws.proofs.Binding.{Rest}
-use Rattle.world_laws.proofs.Lists.{below-or-past, no-place, number-itself, or-first, true-or-false}
-use Rattle.world_laws.proofs.Nodes.{at-rest, prefix-itself}
-use Rattle.world_laws.proofs.Standing.{Nothing, Stands}
+use Rattle.world_laws.proofs.parts.Beside.{alive-beside}
+use Rattle.world_laws.proofs.parts.Binding.{Rest}
+use Rattle.world_laws.proofs.lists.Lists.{below-or-past, no-place, number-itself, or-first, true-or-false}
+use Rattle.world_laws.proofs.parts.Nodes.{at-rest, prefix-itself}
+use Rattle.world_laws.proofs.parts.Standing.{Nothing, Stands}
 
 -- a mount that may come: on a folder without nodes, with no point at or below its own, and with a number of its own
 pub record MayMount (n : Namespace) (mount : Mount) : Type 0 where

@@ -15,11 +15,11 @@ use Rattle.vfs_model.specs.declared.namespace.Namespace.{Namespace}
 use Rattle.vfs_model.specs.declared.namespace.Reference.{Reference}
 use Rattle.vfs_model.specs.declared.namespace.Role.{Role}
 use Rattle.vfs_model.specs.declared.namespace.Role.TheVariants as role
-use Rattle.world_laws.proofs.Keeping.{Kept, live-row, lost-kept, names-kept, then-kept, wanted-kept}
-use Rattle.world_laws.proofs.Lists.{below-or-past, some-within}
-use Rattle.world_laws.proofs.Passing.{refuse-passed}
-use Rattle.world_laws.proofs.Referring.{refer-stands, unrefer-stands}
-use Rattle.world_laws.proofs.Standing.{Nothing, Stands}
+use Rattle.world_laws.proofs.steps.Keeping.{Kept, live-row, lost-kept, names-kept, then-kept, wanted-kept}
+use Rattle.world_laws.proofs.lists.Lists.{below-or-past, some-within}
+use Rattle.world_laws.proofs.lists.Passing.{refuse-passed}
+use Rattle.world_laws.proofs.parts.Referring.{refer-stands, unrefer-stands}
+use Rattle.world_laws.proofs.parts.Standing.{Nothing, Stands}
 
 -- the place of a session's reference
 abbrev pub place_of : ℕ → ℕ → ℕ
@@ -64,7 +64,7 @@ give_up-kept as_role n k hold s =
     let there = reference-place n k hold as_role reference h in
     let good = s.live.held (place_of k hold.number) reference there in
     let row = live-row n reference.file reference.kind reference.mount s.sizes.live_files good.0 in
-    lost-kept n (with_reference n k hold.number None) reference.file.row row.0 row.1 (unrefer-stands n (place_of k hold.number) reference there s) refl refl refl refl)
+    lost-kept n (with_reference n k hold.number None) reference.file.row row.0 row.1 (unrefer-stands n (place_of k hold.number) reference there s) (refl, refl, refl, refl))
 
 pub close-kept : (n : Namespace) (k : ℕ) (hold : HoldId) → Stands Nothing n → Kept n (close_step n k hold)
 close-kept n k hold s = give_up-kept role.Open n k hold s
@@ -99,4 +99,4 @@ map-kept n k hold l s =
     let good = s.live.held (place_of k hold.number) opened there in
     let free = free-place n k l (refuse-passed errno.EMFILE (nat_lt 32 (least_free_number n k)) room) in
     names-kept n (with_reference n k (least_free_number n k) (Some (record opened { role = role.Map })))
-    (refer-stands Nothing n (place_of k (least_free_number n k)) (record opened { role = role.Map }) free good s) refl refl refl refl)))
+    (refer-stands Nothing n (place_of k (least_free_number n k)) (record opened { role = role.Map }) free good s) (refl, refl, refl, refl))))

@@ -19,16 +19,17 @@ use Rattle.vfs_model.specs.declared.namespace.LiveFile.{LiveFile}
 use Rattle.vfs_model.specs.declared.namespace.Mount.{Mount}
 use Rattle.vfs_model.specs.declared.namespace.Namespace.{Namespace}
 use Rattle.vfs_model.specs.declared.namespace.Origin.{Origin}
+use Rattle.vfs_model.specs.declared.namespace.Origin.TheVariants as origin
 use Rattle.vfs_model.specs.declared.namespace.RowChange.{RowChange}
 use Rattle.vfs_model.specs.declared.namespace.RowChange.TheVariants as change
 use Rattle.vfs_model.specs.declared.world.WorldState.{WorldState}
-use Rattle.world_laws.proofs.Agreeing.{Agrees, bind-agrees}
-use Rattle.world_laws.proofs.Binding.{next_generations}
-use Rattle.world_laws.proofs.Filling.{Fill, begins-fit, begins-new, fill-file, fill-folder, life_of}
-use Rattle.world_laws.proofs.FreeRows.{some-free}
-use Rattle.world_laws.proofs.Growing.{tree-own}
-use Rattle.world_laws.proofs.OpenKeeping.{taken-pages}
-use Rattle.world_laws.proofs.Taking.{with_life}
+use Rattle.world_laws.proofs.parts.Agreeing.{Agrees, IsNewSpare, bind-agrees}
+use Rattle.world_laws.proofs.parts.Binding.{next_generations}
+use Rattle.world_laws.proofs.steps.Filling.{Fill, FitsOrigin, begins-fit, fill-file, fill-folder, life_of}
+use Rattle.world_laws.proofs.parts.FreeRows.{some-free}
+use Rattle.world_laws.proofs.parts.Growing.{tree-own}
+use Rattle.world_laws.proofs.steps.OpenKeeping.{taken-pages}
+use Rattle.world_laws.proofs.parts.Taking.{with_life}
 use Rattle.std.proofs.lemmas.List.Sums.{sum_by-cons}
 use Rattle.vfs_model.specs.Boxes.{one_if}
 use Rattle.vfs_model.specs.Content.{file_count}
@@ -51,6 +52,14 @@ tree-and-bind : (m : Namespace) (number : ℕ) (tree : Tree) (row : ℕ) (life :
 tree-and-bind m number tree row life backing.Memory = refl
 tree-and-bind m number tree row life (backing.Cell volume cell) = refl
 tree-and-bind m number tree row life (backing.Device device) = refl
+
+-- no file of a mount's content is made anew
+begins-new : (mount : Mount) (m : Namespace) (p : Path) (begins : Origin) → FitsOrigin mount m p begins → IsNewSpare m begins
+begins-new mount m p origin.Empty f = absurd f
+begins-new mount m p (origin.NewCell volume cell) f = absurd f
+begins-new mount m p (origin.Rom place path) f = tt
+begins-new mount m p (origin.Cell volume cell) f = tt
+begins-new mount m p (origin.Device device) f = tt
 
 module _ (mount : Mount) where
   abbrev pub adds : Rows → (Path × Option Origin) → Rows

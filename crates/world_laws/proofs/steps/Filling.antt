@@ -29,17 +29,17 @@ use Rattle.vfs_model.specs.declared.namespace.Mount.{Mount}
 use Rattle.vfs_model.specs.declared.namespace.Namespace.{Namespace}
 use Rattle.vfs_model.specs.declared.namespace.Origin.{Origin}
 use Rattle.vfs_model.specs.declared.namespace.Origin.TheVariants as origin
-use Rattle.world_laws.proofs.Agreeing.{Begins, IsNewSpare}
-use Rattle.world_laws.proofs.Beside.{working_directories-beside}
-use Rattle.world_laws.proofs.Binding.{Rest, alive-bound, apart-cell, but-taken, cells-bound, devices-same, devices-taken, live_files-set, live_files-taken, live-bound, next_generations, out-other, own-cell, rest-taken, some-life, this-or-other}
-use Rattle.world_laws.proofs.FreeRows.{free_count, one-less, some-free}
-use Rattle.world_laws.proofs.Lists.{number-itself, same-or-other, same-some, set-here, set-there}
-use Rattle.world_laws.proofs.OpenKeeping.{FreeRow, kind-itself, taken-trees}
-use Rattle.world_laws.proofs.Passing.{and-both}
-use Rattle.world_laws.proofs.TreeParts.{same-or-other-path}
+use Rattle.world_laws.proofs.parts.Agreeing.{Begins}
+use Rattle.world_laws.proofs.parts.Beside.{working_directories-beside}
+use Rattle.world_laws.proofs.parts.Binding.{Rest, alive-bound, apart-cell, but-taken, cells-bound, devices-same, devices-taken, live_files-set, live_files-taken, live-bound, next_generations, out-other, own-cell, rest-taken, some-life, this-or-other}
+use Rattle.world_laws.proofs.parts.FreeRows.{free_count, one-less, some-free}
+use Rattle.world_laws.proofs.lists.Lists.{number-itself, same-or-other, same-some, set-here, set-there}
+use Rattle.world_laws.proofs.steps.OpenKeeping.{FreeRow, kind-itself, taken-trees}
+use Rattle.world_laws.proofs.lists.Passing.{and-both}
+use Rattle.world_laws.proofs.parts.TreeParts.{same-or-other-path}
 use Rattle.vfs_model.proofs.Trees.{at-put-here, at-put-other}
-use Rattle.world_laws.proofs.Standing.{IsUsed, Linked, LinkedIn}
-use Rattle.world_laws.proofs.Taking.{BoxesBut, DevicesPlaced, but-life, cell-files, cell-named, cell-pages, set-at, spare-here, spare-other, with_life}
+use Rattle.world_laws.proofs.parts.Standing.{IsUsed, Linked, LinkedIn}
+use Rattle.world_laws.proofs.parts.Taking.{BoxesBut, DevicesPlaced, but-life, cell-files, cell-named, cell-pages, set-at, spare-here, spare-other, with_life}
 
 -- the row of a file of the new tree
 pub record InTree (tree : Tree) (row : ℕ) : Type 0 where
@@ -259,14 +259,6 @@ module _ (mount : Mount) where
   begins-fit m p (origin.Rom place path) f = (ap kind_of f, refl)
   begins-fit m p (origin.Cell volume cell) f = (ap kind_of f.0, refl)
   begins-fit m p (origin.Device device) f = (ap kind_of f.0, refl)
-
-  -- no file of a mount's content is made anew
-  pub begins-new : (m : Namespace) (p : Path) (begins : Origin) → FitsOrigin m p begins → IsNewSpare m begins
-  begins-new m p origin.Empty f = absurd f
-  begins-new m p (origin.NewCell volume cell) f = absurd f
-  begins-new m p (origin.Rom place path) f = tt
-  begins-new m p (origin.Cell volume cell) f = tt
-  begins-new m p (origin.Device device) f = tt
 
   kind-fits : (m : Namespace) (p : Path) (begins : Origin) → FitsOrigin m p begins → fits_kind (Some (life_of begins)) ≡ true
   kind-fits m p origin.Empty f = absurd f

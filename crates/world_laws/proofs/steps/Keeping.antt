@@ -20,12 +20,12 @@ use Rattle.vfs_model.specs.declared.namespace.LiveFile.{LiveFile}
 use Rattle.vfs_model.specs.declared.namespace.Namespace.{Namespace}
 use Rattle.vfs_model.specs.declared.namespace.RowChange.{RowChange}
 use Rattle.vfs_model.specs.declared.world.WorldState.{WorldState}
-use Rattle.world_laws.proofs.Agreeing.{Agrees, agrees-beside, free-agrees}
-use Rattle.world_laws.proofs.AtHome.{MayEnd}
-use Rattle.world_laws.proofs.Freeing.{unused-stands, without_life}
-use Rattle.world_laws.proofs.Lists.{some-within}
-use Rattle.world_laws.proofs.Standing.{Nothing, Only, Stands}
-use Rattle.world_laws.proofs.Taking.{cell-pages}
+use Rattle.world_laws.proofs.parts.Agreeing.{Agrees, SameRows, agrees-beside, free-agrees}
+use Rattle.world_laws.proofs.parts.AtHome.{MayEnd}
+use Rattle.world_laws.proofs.parts.Freeing.{unused-stands, without_life}
+use Rattle.world_laws.proofs.lists.Lists.{some-within}
+use Rattle.world_laws.proofs.parts.Standing.{Nothing, Only, Stands}
+use Rattle.world_laws.proofs.parts.Taking.{cell-pages}
 
 -- a step keeps what holds between steps: the namespace stands, the cells are as large as before, and files that agreed
 -- agree after the changes of rows
@@ -55,12 +55,11 @@ pub same-kept : (n : Namespace) → Stands Nothing n → Keeps n n []
 same-kept n s = record { stands = s; pages = λ volume cell. refl; files = λ v a. a }
 
 -- a step that changes neither lives nor volumes nor devices
-pub names-kept : (n next : Namespace) → Stands Nothing next → n.live_files ≡ next.live_files → n.generations ≡ next.generations → n.volumes ≡ next.volumes →
-    n.devices ≡ next.devices → Keeps n next []
-names-kept n next s live_files generations volumes devices = record {
+pub names-kept : (n next : Namespace) → Stands Nothing next → SameRows n next → Keeps n next []
+names-kept n next s same = record {
   stands = s;
-  pages = λ volume cell. ap (λ all. cell_capacity (record n { volumes = all }) volume cell) (sym volumes);
-  files = λ v a. agrees-beside v n next live_files generations volumes devices a;
+  pages = λ volume cell. ap (λ all. cell_capacity (record n { volumes = all }) volume cell) (sym same.2);
+  files = λ v a. agrees-beside v n next same a;
 }
 
 -- the row of a live file is one of the list
@@ -97,13 +96,13 @@ drop-pages m row true volume cell = refl
 drop-pages m row false volume cell = end-pages (without_life m row) (end_of_dropped (backing_of (life_at m row))) volume cell
 
 -- a name or a reference of a row's file has gone, and the file is freed where nothing names it any more
-pub lost-kept : (n m : Namespace) (row : ℕ) → 0 < row → row - 1 < 1024 → Stands (Only row) m → n.live_files ≡ m.live_files → n.generations ≡ m.generations → n.volumes ≡ m.volumes →
-    n.devices ≡ m.devices → Keeps n (free_if_unused m row).next (free_if_unused m row).changes
+pub lost-kept : (n m : Namespace) (row : ℕ) → 0 < row → row - 1 < 1024 → Stands (Only row) m → SameRows n m →
+    Keeps n (free_if_unused m row).next (free_if_unused m row).changes
 unfolding free_if_unused
-lost-kept n m row l small s live_files generations volumes devices = record {
+lost-kept n m row l small s same = record {
   stands = unused-stands m row l small s;
-  pages = λ volume cell. drop-pages m row (is_linked m row || is_held m row) volume cell ∙ ap (λ all. cell_capacity (record n { volumes = all }) volume cell) (sym volumes);
-  files = λ v a. drop-files m row (is_linked m row || is_held m row) small s.sizes.live_files v (agrees-beside v n m live_files generations volumes devices a);
+  pages = λ volume cell. drop-pages m row (is_linked m row || is_held m row) volume cell ∙ ap (λ all. cell_capacity (record n { volumes = all }) volume cell) (sym same.2);
+  files = λ v a. drop-files m row (is_linked m row || is_held m row) small s.sizes.live_files v (agrees-beside v n m same a);
 }
 
 -- what is there and no file is a folder

@@ -1,36 +1,32 @@
 -- Formatting a volume keeps what holds.
-use Rattle.std.proofs.Common.{◌≡◌, ◌≢◌, ℕ, ◌+◌, ◌*◌, ◌<◌, Bool, true, false, not, ◌&&◌, ◌==◌, Option, Some, None, IsSomeAnd, List, [], length, replicate, slice_index_or, ◌⊎◌, inl, inr, refl, sym, ap, subst, ◌∙◌, arith}
+use Rattle.std.proofs.Common.{◌≡◌, ◌≢◌, ℕ, ◌+◌, ◌<◌, Bool, true, false, ◌&&◌, ◌==◌, Option, Some, None, IsSomeAnd, List, [], length, replicate, slice_index_or, ◌⊎◌, inl, inr, refl, sym, ap, subst, ◌∙◌, arith}
 use Rattle.std.proofs.lemmas.List.{get_or-replicate, length-replicate, length-set}
 use Rattle.std.proofs.lemmas.List.Folds.{position_or_len-set}
 use Rattle.std.proofs.lemmas.List.Sums.{passes_at_first}
 use Rattle.std.specs.Cmp.Lexicographic.{bytes_decides}
 use Rattle.std.specs.List.{list_any}
 use Rattle.std.specs.Prelude.{count_by}
-use Rattle.vfs_base.specs.declared.errno.Errno.TheVariants as errno
 use Rattle.vfs_base.specs.declared.kinds.FsType.TheVariants as fs
 use Rattle.vfs_model.specs.Boxes.{cell_files, fits_kind, is_backed_by, is_kept_dir, is_kept_on, lies_on_cell, one_if}
-use Rattle.vfs_model.specs.Chain.{refuse◌when◌}
 use Rattle.vfs_model.specs.Consistency.{IsClosedTree, LivesFit, fits_mount, mount_numbered, same_kind}
 use Rattle.vfs_model.specs.Content.{is_mounted, same_type}
 use Rattle.vfs_model.specs.FileLife.{no_volume, volume_at, volume_named}
 use Rattle.vfs_model.specs.Namespace.{all_mounts, life_at, same_bytes}
 use Rattle.vfs_model.specs.OpenStep.{kind_of}
-use Rattle.vfs_model.specs.UmountSteps.{format_volume, mkfs_step}
+use Rattle.vfs_model.specs.UmountSteps.{format_volume}
 use Rattle.vfs_model.specs.declared.namespace.Backing.{Backing}
 use Rattle.vfs_model.specs.declared.namespace.Backing.TheVariants as backing
 use Rattle.vfs_model.specs.declared.namespace.LiveFile.{LiveFile}
 use Rattle.vfs_model.specs.declared.namespace.Mount.{Mount}
 use Rattle.vfs_model.specs.declared.namespace.Namespace.{Namespace}
-use Rattle.world_laws.proofs.Agreeing.{agrees-beside}
-use Rattle.world_laws.proofs.Binding.{rest-beside, rest-of, rest-stands}
-use Rattle.world_laws.proofs.Keeping.{Kept, then-kept}
-use Rattle.world_laws.proofs.Counting.{none-count}
-use Rattle.world_laws.proofs.Lists.{any-place, place-any, same-number, same-or-other, set-here, set-there, true-or-false}
-use Rattle.world_laws.proofs.Passing.{and-both, and-first, and-second, refuse-passed}
-use Rattle.world_laws.proofs.Standing.{Nothing, Stands}
-use Rattle.world_laws.proofs.Taking.{set-at}
-use Rattle.world_laws.proofs.UmountKeeping.{found-at}
-use Rattle.world_laws.proofs.Vacating.{cell-kind-is, on-cell}
+use Rattle.world_laws.proofs.parts.Binding.{rest-beside, rest-of, rest-stands}
+use Rattle.world_laws.proofs.lists.Counting.{none-count}
+use Rattle.world_laws.proofs.lists.Lists.{any-place, place-any, same-number, same-or-other, set-here, set-there, true-or-false}
+use Rattle.world_laws.proofs.lists.Passing.{and-both, and-first, and-second}
+use Rattle.world_laws.proofs.parts.Standing.{Nothing, Stands}
+use Rattle.world_laws.proofs.parts.Taking.{set-at}
+use Rattle.world_laws.proofs.steps.UmountKeeping.{found-at}
+use Rattle.world_laws.proofs.steps.Vacating.{cell-kind-is, on-cell}
 
 module _ (n : Namespace) (name : List ℕ) (s : Stands Nothing n) (off : is_mounted n fs.Cell name ≡ false) where
   abbrev place : ℕ

@@ -27,23 +27,23 @@ use Rattle.vfs_model.specs.Namespace.{all_mounts, folder_of, same_path, tree_of}
 use Rattle.vfs_model.specs.declared.namespace.Mount.{Mount}
 use Rattle.vfs_model.specs.declared.namespace.Namespace.{Namespace}
 use Rattle.vfs_model.specs.declared.world.WorldState.{WorldState}
-use Rattle.world_laws.proofs.Adding.{MayMount, not-prefix, own-tree, placed, with_one}
-use Rattle.world_laws.proofs.Agreeing.{Agrees, agrees-beside, agrees-named}
-use Rattle.world_laws.proofs.Binding.{rest-stands}
-use Rattle.world_laws.proofs.Covering.{IsMount, covering-is, covers-prefix, one-number}
-use Rattle.world_laws.proofs.FillAll.{Filled, adds, fill-all}
-use Rattle.world_laws.proofs.Filling.{InTree, node_shape, shape-none}
-use Rattle.world_laws.proofs.FreeRows.{free_count}
-use Rattle.world_laws.proofs.Growing.{MayStand, tree-other, tree-own, tree-stands}
-use Rattle.world_laws.proofs.Keeping.{Keeps, Kept, bind-kept, then-kept, there-folder, wanted-kept}
-use Rattle.world_laws.proofs.Lists.{below-or-past, nor-first, nor-second, or-first, or-second, number-itself, same-number, same-some, true-or-false}
-use Rattle.world_laws.proofs.MountKeeping.{Begun, begun, found-any}
-use Rattle.world_laws.proofs.MoveKeeping.{plain-folder, within-or-not}
-use Rattle.world_laws.proofs.NameKeeping.{not-root}
-use Rattle.world_laws.proofs.Passing.{refuse-passed, then-first, then-rest}
-use Rattle.world_laws.proofs.Points.{point-covers}
-use Rattle.world_laws.proofs.Standing.{IsUsed, Nothing, Stands}
-use Rattle.world_laws.proofs.Taking.{boxes-all}
+use Rattle.world_laws.proofs.steps.Adding.{MayMount, not-prefix, own-tree, placed, with_one}
+use Rattle.world_laws.proofs.parts.Agreeing.{Agrees, agrees-beside, agrees-named}
+use Rattle.world_laws.proofs.parts.Binding.{rest-stands}
+use Rattle.world_laws.proofs.parts.Covering.{IsMount, covering-is, covers-prefix, one-number}
+use Rattle.world_laws.proofs.steps.FillAll.{Filled, adds, fill-all}
+use Rattle.world_laws.proofs.steps.Filling.{InTree, node_shape, shape-none}
+use Rattle.world_laws.proofs.parts.FreeRows.{free_count}
+use Rattle.world_laws.proofs.parts.Growing.{MayStand, tree-other, tree-own, tree-stands}
+use Rattle.world_laws.proofs.steps.Keeping.{Keeps, Kept, bind-kept, then-kept, there-folder, wanted-kept}
+use Rattle.world_laws.proofs.lists.Lists.{below-or-past, nor-first, nor-second, or-first, or-second, number-itself, same-number, same-some, true-or-false}
+use Rattle.world_laws.proofs.steps.MountKeeping.{Begun, begun, found-any}
+use Rattle.world_laws.proofs.steps.MoveKeeping.{plain-folder, within-or-not}
+use Rattle.world_laws.proofs.steps.NameKeeping.{not-root}
+use Rattle.world_laws.proofs.lists.Passing.{refuse-passed, then-first, then-rest}
+use Rattle.world_laws.proofs.parts.Points.{point-covers}
+use Rattle.world_laws.proofs.parts.Standing.{IsUsed, Nothing, Stands}
+use Rattle.world_laws.proofs.parts.Taking.{boxes-all}
 
 -- a mount that is found by its number is one of the mounts
 found-place : (p : Mount → Bool) (mounts : List Mount) (m : Mount) → find p mounts ≡ Some m → (place : ℕ) × (place < length mounts) × (slice_index_or mounts place m ≡ m)
@@ -193,10 +193,10 @@ module _ (n : Namespace) (mount : Mount) (s : Stands Nothing n) (may : MayMount 
 
   -- nor do the names that a volume kept
   base-agrees : (f : FsType) (v : WorldState) → Agrees v n → Agrees v (without_kept (with_one n mount) f mount.source)
-  base-agrees fs.Tmp v a = agrees-beside v n (with_one n mount) refl refl refl refl a
-  base-agrees fs.Rom v a = agrees-beside v n (with_one n mount) refl refl refl refl a
-  base-agrees fs.Dev v a = agrees-beside v n (with_one n mount) refl refl refl refl a
-  base-agrees fs.Cell v a = agrees-named v (with_one n mount) (volume_named n mount.source) [] (agrees-beside v n (with_one n mount) refl refl refl refl a)
+  base-agrees fs.Tmp v a = agrees-beside v n (with_one n mount) (refl, refl, refl, refl) a
+  base-agrees fs.Rom v a = agrees-beside v n (with_one n mount) (refl, refl, refl, refl) a
+  base-agrees fs.Dev v a = agrees-beside v n (with_one n mount) (refl, refl, refl, refl) a
+  base-agrees fs.Cell v a = agrees-named v (with_one n mount) (volume_named n mount.source) [] (agrees-beside v n (with_one n mount) (refl, refl, refl, refl) a)
 
   pub added-kept : Keeps n (add_mount n mount).next (add_mount n mount).changes
   added-kept = record {
@@ -204,7 +204,7 @@ module _ (n : Namespace) (mount : Mount) (s : Stands Nothing n) (may : MayMount 
     pages = λ volume cell. ap (λ m. cell_capacity m volume cell) (ap (λ r. r.next) added ∙ all.is) ∙ all.pages volume cell ∙ begins.pages volume cell;
     files = λ v a.
         subst (λ m. Agrees (fold change_row v (add_mount n mount).changes) m) (sym (ap (λ r. r.next) added ∙ all.is))
-        (agrees-beside (fold change_row v (add_mount n mount).changes) (all.last) (with_tree (all.last) mount.number (all.final)) refl refl refl refl
+        (agrees-beside (fold change_row v (add_mount n mount).changes) (all.last) (with_tree (all.last) mount.number (all.final)) (refl, refl, refl, refl)
         (subst (λ r. Agrees (fold change_row v r.changes) (all.last)) (sym added)
         (all.files v (base-agrees mount.fs v a))));
   }

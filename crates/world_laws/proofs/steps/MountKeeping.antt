@@ -34,16 +34,16 @@ use Rattle.vfs_model.specs.declared.namespace.Namespace.{Namespace}
 use Rattle.vfs_model.specs.declared.namespace.Origin.{Origin}
 use Rattle.vfs_model.specs.declared.namespace.RomNode.{RomNode}
 use Rattle.vfs_model.specs.declared.namespace.RomNode.TheVariants as rom
-use Rattle.world_laws.proofs.Adding.{MayMount, placed, one-live_files, one-rest, with_one}
-use Rattle.world_laws.proofs.Binding.{Rest, rest-beside}
-use Rattle.world_laws.proofs.Contents.{AllDevices, IsDevice, IsTree, device-content, empty-tree, kept-tree, rom-tree}
-use Rattle.world_laws.proofs.Filling.{AllFit, Fill, Fits, InTree, begins_on, content_shape, pending}
-use Rattle.world_laws.proofs.Filters.{PassingDiffer}
-use Rattle.world_laws.proofs.FreeRows.{free_count, rows-length}
-use Rattle.world_laws.proofs.Lists.{AnyPlace, any-later, below-or-past, no-place, nor-first, nor-second, number-itself, or-either, or-first, or-second, same-or-other, same-some, set-here, set-there, equal-is, other-number, true-or-false}
-use Rattle.world_laws.proofs.Passing.{and-both, and-first, and-second}
-use Rattle.world_laws.proofs.Standing.{IsUsed, Nothing, Stands}
-use Rattle.world_laws.proofs.Taking.{BoxesBut, boxes-but, set-at}
+use Rattle.world_laws.proofs.steps.Adding.{MayMount, placed, one-live_files, one-rest, with_one}
+use Rattle.world_laws.proofs.parts.Binding.{Rest, rest-beside}
+use Rattle.world_laws.proofs.parts.Contents.{AllDevices, IsDevice, IsTree, device-content, empty-tree, kept-tree, rom-tree}
+use Rattle.world_laws.proofs.steps.Filling.{AllFit, Fill, Fits, InTree, begins_on, content_shape, pending}
+use Rattle.world_laws.proofs.lists.Filters.{PassingDiffer}
+use Rattle.world_laws.proofs.parts.FreeRows.{free_count, rows-length}
+use Rattle.world_laws.proofs.lists.Lists.{AnyPlace, any-later, below-or-past, no-place, nor-first, nor-second, number-itself, or-either, or-first, or-second, same-or-other, same-some, set-here, set-there, equal-is, other-number, true-or-false}
+use Rattle.world_laws.proofs.lists.Passing.{and-both, and-first, and-second}
+use Rattle.world_laws.proofs.parts.Standing.{IsUsed, Nothing, Stands}
+use Rattle.world_laws.proofs.parts.Taking.{BoxesBut, boxes-but, set-at}
 
 -- one of a list passes where the count isn't 0
 counted-cons : {X : Type 0} (p : X → Bool) (x : X) (xs : List X) (d : X) (b : Bool) → p x ≡ b → 0 < one_if b + count_by p xs → (0 < count_by p xs → AnyPlace p xs d) → AnyPlace p (x ∷ xs) d

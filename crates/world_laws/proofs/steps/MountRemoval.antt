@@ -15,14 +15,14 @@ use Rattle.vfs_model.specs.declared.namespace.Mount.{Mount}
 use Rattle.vfs_model.specs.declared.namespace.Namespace.{Namespace}
 use Rattle.vfs_model.specs.declared.namespace.RowChange.{RowChange}
 use Rattle.vfs_model.specs.declared.world.WorldState.{WorldState}
-use Rattle.world_laws.proofs.Agreeing.{Agrees, agrees-beside, agrees-named}
-use Rattle.world_laws.proofs.Binding.{rest-stands}
-use Rattle.world_laws.proofs.Emptying.{Empty, empty-all}
-use Rattle.world_laws.proofs.Lists.{same-or-other}
-use Rattle.world_laws.proofs.Standing.{Nothing, Stands}
-use Rattle.world_laws.proofs.Taking.{boxes-all, set-at}
-use Rattle.world_laws.proofs.Unmounting.{MayLeave, left-same, left_by, stays}
-use Rattle.world_laws.proofs.Vacating.{vacated}
+use Rattle.world_laws.proofs.parts.Agreeing.{Agrees, agrees-beside, agrees-named}
+use Rattle.world_laws.proofs.parts.Binding.{rest-stands}
+use Rattle.world_laws.proofs.parts.Emptying.{Empty, empty-all}
+use Rattle.world_laws.proofs.lists.Lists.{same-or-other}
+use Rattle.world_laws.proofs.parts.Standing.{Nothing, Stands}
+use Rattle.world_laws.proofs.parts.Taking.{boxes-all, set-at}
+use Rattle.world_laws.proofs.steps.Unmounting.{MayLeave, left-same, left_by, stays}
+use Rattle.world_laws.proofs.steps.Vacating.{vacated}
 
 -- no file of a mount is left, so everything stands
 pub emptied-stands : (number : ℕ) (m : Namespace) → Empty number m [] → Stands Nothing m
@@ -134,12 +134,12 @@ left-pages n mount fs.Cell volume cell = ap (λ pages. 4096 * slice_index_or pag
 
 -- the names that a volume keeps change nothing that agrees
 left-agrees : (v : WorldState) (n : Namespace) (mount : Mount) (f : FsType) → Agrees v n → Agrees v (left_by n mount f)
-left-agrees v n mount fs.Tmp a = agrees-beside v n (left_by n mount fs.Tmp) refl refl refl refl a
-left-agrees v n mount fs.Rom a = agrees-beside v n (left_by n mount fs.Rom) refl refl refl refl a
-left-agrees v n mount fs.Dev a = agrees-beside v n (left_by n mount fs.Dev) refl refl refl refl a
+left-agrees v n mount fs.Tmp a = agrees-beside v n (left_by n mount fs.Tmp) (refl, refl, refl, refl) a
+left-agrees v n mount fs.Rom a = agrees-beside v n (left_by n mount fs.Rom) (refl, refl, refl, refl) a
+left-agrees v n mount fs.Dev a = agrees-beside v n (left_by n mount fs.Dev) (refl, refl, refl, refl) a
 left-agrees v n mount fs.Cell a =
     let named = with_kept n (volume_named n mount.source) (map (λ entry. (entry.0, kept_node n entry.1)) (tree_of n mount.number)) in
-    agrees-beside v named (left_by n mount fs.Cell) refl refl refl refl
+    agrees-beside v named (left_by n mount fs.Cell) (refl, refl, refl, refl)
     (agrees-named v n (volume_named n mount.source) (map (λ entry. (entry.0, kept_node n entry.1)) (tree_of n mount.number)) a)
 
 pub removal : (n : Namespace) (mount : Mount) (changes : List RowChange) → Stands Nothing n → MayLeave n mount → Removed n mount changes (remove_mount (record { next = n; changes = changes }) mount)

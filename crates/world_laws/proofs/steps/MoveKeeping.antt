@@ -23,16 +23,16 @@ use Rattle.vfs_model.specs.NameSteps.{after_loss, done}
 use Rattle.vfs_model.specs.Namespace.{Tree, all_mounts, folder_of, same_path, tree_of}
 use Rattle.vfs_model.specs.RenameStep.{move_at, move_refusals, rename_at, rename_refusals, rename_step, with_moved}
 use Rattle.vfs_model.specs.declared.namespace.Namespace.{Namespace}
-use Rattle.world_laws.proofs.Clear.{below-prefix, clear-of-points}
-use Rattle.world_laws.proofs.Covering.{prefix-append-both, prefix-length, same-prefix, splits}
-use Rattle.world_laws.proofs.Keeping.{Kept, bind-kept, live-row, lost-kept, names-kept, same-kept, then-kept}
-use Rattle.world_laws.proofs.Lists.{AnyKey, AnyPlace, any-key, any-place, below-or-past, no-place, nor-first, nor-second, or-either, same-number, true-or-false}
-use Rattle.world_laws.proofs.NameKeeping.{below-point, no-folder, not-root}
-use Rattle.world_laws.proofs.Nodes.{at-rest, number_at, parent-dir, prefix-itself, tree_at}
-use Rattle.world_laws.proofs.Passing.{and-first, and-second, refuse-passed, refuse_by-passed, then-first, then-rest}
-use Rattle.world_laws.proofs.Renaming.{MayRename, moves-stands, replaces-stands}
-use Rattle.world_laws.proofs.Standing.{Nothing, Stands}
-use Rattle.world_laws.proofs.TreeParts.{at-node, named, not-empty}
+use Rattle.world_laws.proofs.parts.Clear.{below-prefix, clear-of-points}
+use Rattle.world_laws.proofs.parts.Covering.{prefix-append-both, prefix-length, same-prefix, splits}
+use Rattle.world_laws.proofs.steps.Keeping.{Kept, bind-kept, live-row, lost-kept, names-kept, same-kept, then-kept}
+use Rattle.world_laws.proofs.lists.Lists.{AnyKey, AnyPlace, any-key, any-place, below-or-past, no-place, nor-first, nor-second, or-either, same-number, true-or-false}
+use Rattle.world_laws.proofs.steps.NameKeeping.{below-point, no-folder, not-root}
+use Rattle.world_laws.proofs.parts.Nodes.{at-rest, number_at, parent-dir, prefix-itself, tree_at}
+use Rattle.world_laws.proofs.lists.Passing.{and-first, and-second, refuse-passed, refuse_by-passed, then-first, then-rest}
+use Rattle.world_laws.proofs.steps.Renaming.{MayRename, moves-stands, replaces-stands}
+use Rattle.world_laws.proofs.parts.Standing.{Nothing, Stands}
+use Rattle.world_laws.proofs.parts.TreeParts.{at-node, named, not-empty}
 
 -- what stands above something in a closed tree is a folder
 one-up : (tree : Tree) → IsClosedTree is_dir_node tree → (front : Path) (name : List ℕ) → front ≢ [] → is_some (value_at path_cmp (front ++ name ∷ []) tree) ≡ true →
@@ -272,12 +272,12 @@ module _ (n : Namespace) (old new : Path) (s : Stands Nothing n) (p : Passed n o
   -- the move, by what stands at new
   moved-kept : (found : Option NodeKind) → node_at n new ≡ found → Kept n (done (after_loss (with_moved n old new) found))
   unfolding with_moved
-  moved-kept None e = names-kept n (with_moved n old new) (moves-stands n old new s may (λ id kind h. let none = at-new-path None e in absurd (cc))) refl refl refl refl
-  moved-kept (Some node.Dir) e = names-kept n (with_moved n old new) (moves-stands n old new s may (λ id kind h. let dir = at-new-path (Some node.Dir) e in absurd (cc))) refl refl refl refl
+  moved-kept None e = names-kept n (with_moved n old new) (moves-stands n old new s may (λ id kind h. let none = at-new-path None e in absurd (cc))) (refl, refl, refl, refl)
+  moved-kept (Some node.Dir) e = names-kept n (with_moved n old new) (moves-stands n old new s may (λ id kind h. let dir = at-new-path (Some node.Dir) e in absurd (cc))) (refl, refl, refl, refl)
   moved-kept (Some (node.File id kind)) e =
       let there = at-new-path (Some (node.File id kind)) e in
       let row = live-row n id kind (number_at n old) s.sizes.live_files (s.live.linked (number_at n old) (rest_of n new) id kind there) in
-      lost-kept n (with_moved n old new) id.row row.0 row.1 (replaces-stands n old new s may id kind there) refl refl refl refl
+      lost-kept n (with_moved n old new) id.row row.0 row.1 (replaces-stands n old new s may id kind there) (refl, refl, refl, refl)
 
 either-kept : (n : Namespace) (old new : Path) (b : Bool) → same_path old new ≡ b → Stands Nothing n → rename_refusals n old new ≡ Ok tt →
     Kept n (if b then answers reply.Done n [] else move_at n old new)

@@ -21,15 +21,15 @@ use Rattle.vfs_model.specs.NameSteps.{after_loss, chdir_step, done, folder_refus
 use Rattle.vfs_model.specs.Namespace.{all_mounts, folder_of, same_path, with_folder_of}
 use Rattle.vfs_model.specs.NormalPath.{TextFault, is_long_path, is_long_part, is_zero, normal_path, parts_of, place_of}
 use Rattle.vfs_model.specs.declared.namespace.Namespace.{Namespace}
-use Rattle.world_laws.proofs.Covering.{covering-is, splits}
-use Rattle.world_laws.proofs.Keeping.{Kept, absent-none, bind-kept, live-row, lost-kept, names-kept, same-kept, then-kept, there-file, there-folder, wanted-kept}
-use Rattle.world_laws.proofs.Lists.{below-or-past, neither, no-place, place-any, true-or-false}
-use Rattle.world_laws.proofs.Nodes.{at-rest, folder-comes, number_at, tree_at}
-use Rattle.world_laws.proofs.Passing.{refuse-passed, refuse_by-passed, then-first, then-rest}
-use Rattle.world_laws.proofs.Referring.{folder-stands}
-use Rattle.world_laws.proofs.Removing.{MayGo, file-gone, folder-gone}
-use Rattle.world_laws.proofs.Standing.{Nothing, Stands}
-use Rattle.world_laws.proofs.TreeParts.{at-node}
+use Rattle.world_laws.proofs.parts.Covering.{covering-is, splits}
+use Rattle.world_laws.proofs.steps.Keeping.{Kept, absent-none, bind-kept, live-row, lost-kept, names-kept, same-kept, then-kept, there-file, there-folder, wanted-kept}
+use Rattle.world_laws.proofs.lists.Lists.{below-or-past, neither, no-place, place-any, true-or-false}
+use Rattle.world_laws.proofs.parts.Nodes.{at-rest, folder-comes, number_at, tree_at}
+use Rattle.world_laws.proofs.lists.Passing.{refuse-passed, refuse_by-passed, then-first, then-rest}
+use Rattle.world_laws.proofs.parts.Referring.{folder-stands}
+use Rattle.world_laws.proofs.parts.Removing.{MayGo, file-gone, folder-gone}
+use Rattle.world_laws.proofs.parts.Standing.{Nothing, Stands}
+use Rattle.world_laws.proofs.parts.TreeParts.{at-node}
 
 pub stat-kept : (n : Namespace) (k : ℕ) (text : List ℕ) → Stands Nothing n → Kept n (stat_step n k text)
 stat-kept n k text s =
@@ -81,7 +81,7 @@ pub chdir-kept : (n : Namespace) (k : ℕ) (text : List ℕ) → Stands Nothing 
 chdir-kept n k text s =
     bind-kept n (asked_path n k text) _ (λ path e.
     then-kept n (folder_refusals n path) _ (λ h.
-    names-kept n (with_folder_of n k path) (folder-stands Nothing n k path (ap is_dir_node (folder-is n path h)) (asked-short n k text path e) s) refl refl refl refl))
+    names-kept n (with_folder_of n k path) (folder-stands Nothing n k path (ap is_dir_node (folder-is n path h)) (asked-short n k text path e) s) (refl, refl, refl, refl)))
 
 pub root-folder : (n : Namespace) → FoldersStand n → node_at n [] ≡ Some node.Dir
 root-folder n f =
@@ -93,7 +93,7 @@ root-folder n f =
     no-rest (name ∷ point) e = absurd (cc)
 
 pub home-kept : (n : Namespace) (k : ℕ) → Stands Nothing n → Kept n (home_step n k)
-home-kept n k s = names-kept n (with_folder_of n k []) (folder-stands Nothing n k [] (ap is_dir_node (root-folder n s.working_directories)) (omega arith) s) refl refl refl refl
+home-kept n k s = names-kept n (with_folder_of n k []) (folder-stands Nothing n k [] (ap is_dir_node (root-folder n s.working_directories)) (omega arith) s) (refl, refl, refl, refl)
 
 pub mkdir-kept : (n : Namespace) (k : ℕ) (text : List ℕ) → Stands Nothing n → Kept n (mkdir_step n k text)
 unfolding mkdir_refusals with_node
@@ -105,7 +105,7 @@ mkdir-kept n k text s =
     let absent = refuse-passed errno.EEXIST (is_there n path) (then-first (refuse errno.EEXIST when (is_there n path)) _ tt r) in
     let r2 = then-rest (refuse errno.EEXIST when (is_there n path)) _ tt r in
     let room = refuse-passed errno.ENOSPC (is_full n path) (then-rest (refuse errno.EROFS when (is_read_only n path)) _ tt r2) in
-    names-kept n (with_node n path node.Dir) (folder-comes n path s walk (absent-none (node_at n path) absent) room) refl refl refl refl))
+    names-kept n (with_node n path node.Dir) (folder-comes n path s walk (absent-none (node_at n path) absent) room) (refl, refl, refl, refl)))
 
 -- a path that is no point lies below its mount's point
 pub below-point : (n : Namespace) (p : Path) → FoldersStand n → is_point n p ≡ false → rest_of n p ≢ []
@@ -157,7 +157,7 @@ rmdir-kept n k text s =
       childless = λ name. none-below (rest_of n path) (rest_of n path ++ name ∷ []) (tree_at n path) bare (below-longer (rest_of n path) name []);
       working_directories = no-folder n path (not-root n path s.working_directories unpointed) free;
     } in
-    names-kept n (without_node n path) (folder-gone n path s may (node-there n path node.Dir below (there-folder (node_at n path) present folder))) refl refl refl refl))
+    names-kept n (without_node n path) (folder-gone n path s may (node-there n path node.Dir below (there-folder (node_at n path) present folder))) (refl, refl, refl, refl)))
 
 -- a file has no children
 pub file-childless : (n : Namespace) (p : Path) (id : FileId) (kind : Kind) → Stands Nothing n → rest_of n p ≢ [] → value_at path_cmp (rest_of n p) (tree_at n p) ≡ Some (node.File id kind) →
@@ -201,4 +201,4 @@ unlink-kept n k text s =
         } in
         let row = live-row n id kind (number_at n path) s.sizes.live_files (s.live.linked (number_at n path) (rest_of n path) id kind at) in
         subst (λ found. Kept n (done (after_loss (without_node n path) found))) (sym there)
-        (lost-kept n (without_node n path) id.row row.0 row.1 (file-gone n path s may id kind at) refl refl refl refl)
+        (lost-kept n (without_node n path) id.row row.0 row.1 (file-gone n path s may id kind at) (refl, refl, refl, refl))

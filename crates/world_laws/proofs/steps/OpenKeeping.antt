@@ -34,18 +34,18 @@ use Rattle.vfs_model.specs.declared.namespace.Namespace.{Namespace}
 use Rattle.vfs_model.specs.declared.namespace.Reference.{Reference}
 use Rattle.vfs_model.specs.declared.namespace.RowChange.TheVariants as change
 use Rattle.vfs_model.specs.declared.world.WorldState.{WorldState}
-use Rattle.world_laws.proofs.Agreeing.{Agrees, Begins, IsNewSpare, agrees-beside, bind-agrees}
-use Rattle.world_laws.proofs.Binding.{IsFreeBacking, MayBind, some-life, bind-stands, next_generations}
-use Rattle.world_laws.proofs.Covering.{IsMount, covering-is}
-use Rattle.world_laws.proofs.FileKeepingSteps.{free-place, place_of}
-use Rattle.world_laws.proofs.Keeping.{Keeps, Kept, absent-none, bind-kept, same-kept, then-kept}
-use Rattle.world_laws.proofs.Lists.{below-or-past, nor-first, nor-second, number-itself, same-number, set-here}
-use Rattle.world_laws.proofs.NameKeeping.{file-below, node-there}
-use Rattle.world_laws.proofs.Nodes.{covering-number, file-comes, number_at}
-use Rattle.world_laws.proofs.Passing.{and-both, and-first, refuse-passed, refuse_by-passed, then-first, then-rest}
-use Rattle.world_laws.proofs.Referring.{refer-stands}
-use Rattle.world_laws.proofs.Standing.{Linked, Nothing, Stands}
-use Rattle.world_laws.proofs.Taking.{cell-pages, with_life}
+use Rattle.world_laws.proofs.parts.Agreeing.{Agrees, Begins, IsNewSpare, agrees-beside, bind-agrees}
+use Rattle.world_laws.proofs.parts.Binding.{IsFreeBacking, MayBind, some-life, bind-stands, next_generations}
+use Rattle.world_laws.proofs.parts.Covering.{IsMount, covering-is}
+use Rattle.world_laws.proofs.steps.FileKeepingSteps.{free-place, place_of}
+use Rattle.world_laws.proofs.steps.Keeping.{Keeps, Kept, absent-none, bind-kept, same-kept, then-kept}
+use Rattle.world_laws.proofs.lists.Lists.{below-or-past, nor-first, nor-second, number-itself, same-number, set-here}
+use Rattle.world_laws.proofs.steps.NameKeeping.{file-below, node-there}
+use Rattle.world_laws.proofs.parts.Nodes.{covering-number, file-comes, number_at}
+use Rattle.world_laws.proofs.lists.Passing.{and-both, and-first, refuse-passed, refuse_by-passed, then-first, then-rest}
+use Rattle.world_laws.proofs.parts.Referring.{refer-stands}
+use Rattle.world_laws.proofs.parts.Standing.{Linked, Nothing, Stands}
+use Rattle.world_laws.proofs.parts.Taking.{cell-pages, with_life}
 
 -- a mount of the list is found by its number
 found-later : (m x : Mount) (mounts : List Mount) (b : Bool) → (x.number == m.number) ≡ b → ((x.number == m.number) ≡ true → ⊥) → find (λ x. x.number == m.number) mounts ≡ Some m →
@@ -300,7 +300,7 @@ made-kept n k p may absent s =
         Agrees (change_row v (change.Bind (next_file n row) (new_origin life.backing))) (bind_row (with_node n p (node.File (next_file n row) life.kind)) row life)
     made-files v a row life b new l =
         bind-agrees v (with_node n p (node.File (next_file n row) life.kind)) row life (new_origin life.backing) l s.sizes.live_files s.sizes.generations b
-        new (agrees-beside v n (with_node n p (node.File (next_file n row) life.kind)) refl refl refl refl a)
+        new (agrees-beside v n (with_node n p (node.File (next_file n row) life.kind)) (refl, refl, refl, refl) a)
 
 taken-references : (m : Namespace) (b : Backing) → (after_taking m b).references ≡ m.references
 taken-references m backing.Memory = refl
@@ -329,7 +329,7 @@ opened-kept n k p rows l same h kept (Some (node.File id kind)) e =
     record {
       stands = refer-stands Nothing m (place_of k number) reference place (live, (covering-number m p kept.stands.working_directories).1) kept.stands;
       pages = kept.pages;
-      files = λ v a. agrees-beside _ m (with_reference m k number (Some reference)) refl refl refl refl (kept.files v a);
+      files = λ v a. agrees-beside _ m (with_reference m k number (Some reference)) (refl, refl, refl, refl) (kept.files v a);
     }
 
 at-path-kept : (n : Namespace) (k : ℕ) (p : Path) (b : Bool) → is_there n p ≡ b → 0 < k → MayOpen n k p → Stands Nothing n →

@@ -28,7 +28,7 @@ use Rattle.vfs_model.specs.ScriptRun.{opening_state, rom_image, rom_node}
 use Rattle.vfs_base.specs.declared.deck.Deck.{Deck}
 use Rattle.vfs_base.specs.declared.deck.RomText.{RomText}
 use Rattle.vfs_model.specs.declared.namespace.RomNode.{RomNode}
-use Rattle.world_laws.proofs.Lists.{or-first, or-second}
+use Rattle.world_laws.proofs.lists.Lists.{or-first, or-second}
 
 abbrev nodes : RomItems → List (Path × RomNode)
 nodes items = map (λ item. (item.0, rom_node item.1)) items

@@ -18,17 +18,17 @@ use Rattle.vfs_model.specs.Namespace.{Tree, all_mounts, folder_of, tree_of}
 use Rattle.vfs_model.specs.RenameStep.{moved, with_moved}
 use Rattle.vfs_model.specs.declared.namespace.Mount.{Mount}
 use Rattle.vfs_model.specs.declared.namespace.Namespace.{Namespace}
-use Rattle.world_laws.proofs.Covering.{covering-is, one-number, prefix-append-both, prefix-length, same-prefix, splits}
-use Rattle.world_laws.proofs.Growing.{MayStand, tree-other, tree-own, tree-stands}
-use Rattle.world_laws.proofs.Lists.{AnyKey, any-key, below-or-past, no-place, same-or-other, true-or-false}
-use Rattle.world_laws.proofs.Clear.{below-prefix}
-use Rattle.world_laws.proofs.Passing.{and-first}
+use Rattle.world_laws.proofs.parts.Covering.{covering-is, one-number, prefix-append-both, prefix-length, same-prefix, splits}
+use Rattle.world_laws.proofs.parts.Growing.{MayStand, tree-other, tree-own, tree-stands}
+use Rattle.world_laws.proofs.lists.Lists.{AnyKey, any-key, below-or-past, no-place, same-or-other, true-or-false}
+use Rattle.world_laws.proofs.parts.Clear.{below-prefix}
+use Rattle.world_laws.proofs.lists.Passing.{and-first}
 use Rattle.vfs_model.proofs.MountLaws.{prefixes-nest}
-use Rattle.world_laws.proofs.Nodes.{covering-number, number_at, prefix-itself, tree_at}
-use Rattle.world_laws.proofs.Points.{point-apart, point-covers}
-use Rattle.world_laws.proofs.Standing.{IsUsed, Linked, Nothing, Only, Stands}
-use Rattle.world_laws.proofs.TreeMoves.{MayMove, Source, t-true, at-new, moved-closed, one-source, source}
-use Rattle.world_laws.proofs.TreeParts.{same-or-other-path}
+use Rattle.world_laws.proofs.parts.Nodes.{covering-number, number_at, prefix-itself, tree_at}
+use Rattle.world_laws.proofs.parts.Points.{point-apart, point-covers}
+use Rattle.world_laws.proofs.parts.Standing.{IsUsed, Linked, Nothing, Only, Stands}
+use Rattle.world_laws.proofs.parts.TreeMoves.{MayMove, Source, t-true, at-new, moved-closed, one-source, source}
+use Rattle.world_laws.proofs.parts.TreeParts.{same-or-other-path}
 
 -- a move that nothing refuses, in the mount of both paths
 pub record MayRename (n : Namespace) (old new : Path) : Type 0 where

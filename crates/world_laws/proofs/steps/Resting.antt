@@ -1,12 +1,12 @@
 -- The references that are left go, each session goes into `/`, and the files without a name are freed.
-use Rattle.std.proofs.Common.{◌≡◌, ◌≢◌, ℕ, zero, suc, ◌+◌, ◌-◌, ◌<◌, ◌≤◌, Bool, true, false, not, ◌&&◌, if◌then◌else◌, Option, Some, None, is_some, List, [], ◌∷◌, ◌++◌, length, map, filter, fold, slice_index_or, slice_set, ◌⊎◌, inl, inr, refl, sym, ap, subst, ◌∙◌, arith}
+use Rattle.std.proofs.Common.{◌≡◌, ℕ, zero, suc, ◌+◌, ◌-◌, ◌<◌, ◌≤◌, Bool, true, false, not, ◌&&◌, if◌then◌else◌, Option, Some, None, is_some, List, [], ◌∷◌, ◌++◌, length, map, filter, fold, slice_index_or, slice_set, inl, inr, refl, sym, ap, subst, ◌∙◌, arith}
 use Rattle.std.proofs.lemmas.List.{length-map, length-set}
 use Rattle.std.proofs.lemmas.List.Sums.{fold-append}
 use Rattle.std.specs.List.{enumerate_from}
 use Rattle.vfs_base.specs.Path.{Path, printed}
 use Rattle.vfs_model.specs.Consistency.{FoldersStand}
 use Rattle.vfs_model.specs.FileLife.{Rows, after_end, backing_of, end_of_dropped, free_row, is_linked}
-use Rattle.vfs_model.specs.Homes.{cell_capacity, change_row}
+use Rattle.vfs_model.specs.Homes.{change_row}
 use Rattle.vfs_model.specs.Lookup.{covering_mount, is_dir_node, is_folder, node_at}
 use Rattle.vfs_model.specs.Namespace.{file_of, life_at}
 use Rattle.vfs_model.specs.UmountSteps.{come_to_rest, unlinked_rows, unreferred}
@@ -17,18 +17,17 @@ use Rattle.vfs_model.specs.declared.namespace.Namespace.{Namespace}
 use Rattle.vfs_model.specs.declared.namespace.Reference.{Reference}
 use Rattle.vfs_model.specs.declared.namespace.RowChange.{RowChange}
 use Rattle.vfs_model.specs.declared.namespace.RowChange.TheVariants as change
-use Rattle.vfs_model.specs.declared.world.WorldState.{WorldState}
-use Rattle.world_laws.proofs.Agreeing.{Agrees, agrees-beside, free-agrees}
-use Rattle.world_laws.proofs.Beside.{alive-beside, boxes-beside, working_directories-beside}
-use Rattle.world_laws.proofs.Binding.{live_files-set, rest-stands}
-use Rattle.world_laws.proofs.Emptying.{InRows, used-left}
-use Rattle.world_laws.proofs.Freeing.{boxes-dropped, live-freed, live_files-dropped, rest-dropped, without_life}
-use Rattle.world_laws.proofs.Keeping.{dropped-ends, end-pages}
-use Rattle.world_laws.proofs.Lists.{same-or-other, some-within, true-or-false}
-use Rattle.world_laws.proofs.NameKeeping.{root-folder}
-use Rattle.world_laws.proofs.Passing.{and-both, and-second}
-use Rattle.world_laws.proofs.RootRemoval.{AtRest, Ended}
-use Rattle.world_laws.proofs.Standing.{Held, IsUsed, Linked, LinkedIn, Nothing, Stands, linked-is, linked-of}
+use Rattle.world_laws.proofs.parts.Agreeing.{Agrees, agrees-beside, free-agrees}
+use Rattle.world_laws.proofs.parts.Beside.{alive-beside, boxes-beside, working_directories-beside}
+use Rattle.world_laws.proofs.parts.Binding.{live_files-set, rest-stands}
+use Rattle.world_laws.proofs.parts.Emptying.{InRows, used-left}
+use Rattle.world_laws.proofs.parts.Freeing.{boxes-dropped, live-freed, live_files-dropped, rest-dropped, without_life}
+use Rattle.world_laws.proofs.steps.Keeping.{dropped-ends, end-pages}
+use Rattle.world_laws.proofs.lists.Lists.{same-or-other, some-within, true-or-false}
+use Rattle.world_laws.proofs.steps.NameKeeping.{root-folder}
+use Rattle.world_laws.proofs.lists.Passing.{and-both, and-second}
+use Rattle.world_laws.proofs.steps.RootRemoval.{AtRest, Ended}
+use Rattle.world_laws.proofs.parts.Standing.{Held, IsUsed, Linked, LinkedIn, Nothing, Stands, linked-is, linked-of}
 
 -- rows that pass a test, from a row on
 abbrev passing_rows : (ℕ × Option LiveFile → Bool) → ℕ → List (Option LiveFile) → List ℕ
@@ -252,7 +251,7 @@ module _ (n : Namespace) (s : Stands Nothing n) where
         ended = record {
           stands = out.ended.stands;
           pages = out.ended.pages;
-          files = λ v a. out.ended.files v (agrees-beside v n (unreferred n) refl refl refl refl a);
+          files = λ v a. out.ended.files v (agrees-beside v n (unreferred n) (refl, refl, refl, refl) a);
         };
         rest = out.rest;
         mounts = out.mounts;

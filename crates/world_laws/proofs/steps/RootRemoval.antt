@@ -19,15 +19,15 @@ use Rattle.vfs_model.specs.declared.namespace.Mount.{Mount}
 use Rattle.vfs_model.specs.declared.namespace.Namespace.{Namespace}
 use Rattle.vfs_model.specs.declared.namespace.RowChange.{RowChange}
 use Rattle.vfs_model.specs.declared.world.WorldState.{WorldState}
-use Rattle.world_laws.proofs.Agreeing.{Agrees, agrees-beside}
-use Rattle.world_laws.proofs.Emptying.{Empty, InRows, empty-all, twice}
-use Rattle.world_laws.proofs.Leaving.{rows-in, rows-left}
-use Rattle.world_laws.proofs.Lists.{number-itself, other-number, same-number, same-or-other, set-here, set-there, some-within, true-or-false}
-use Rattle.world_laws.proofs.MountRemoval.{emptied-stands}
-use Rattle.world_laws.proofs.Passing.{and-first}
-use Rattle.world_laws.proofs.Standing.{Held, Linked, Nothing, Stands}
-use Rattle.world_laws.proofs.Taking.{boxes-but}
-use Rattle.world_laws.proofs.Vacating.{cell-kind-is, no-rows, on-cell}
+use Rattle.world_laws.proofs.parts.Agreeing.{Agrees, agrees-beside}
+use Rattle.world_laws.proofs.parts.Emptying.{Empty, InRows, empty-all, twice}
+use Rattle.world_laws.proofs.lists.Leaving.{rows-in, rows-left}
+use Rattle.world_laws.proofs.lists.Lists.{number-itself, other-number, same-number, same-or-other, set-here, set-there, some-within, true-or-false}
+use Rattle.world_laws.proofs.steps.MountRemoval.{emptied-stands}
+use Rattle.world_laws.proofs.lists.Passing.{and-first}
+use Rattle.world_laws.proofs.parts.Standing.{Held, Linked, Nothing, Stands}
+use Rattle.world_laws.proofs.parts.Taking.{boxes-but}
+use Rattle.world_laws.proofs.steps.Vacating.{cell-kind-is, no-rows, on-cell}
 
 -- no reference is left, and each session is in `/`
 pub record AtRest (n : Namespace) : Type 0 where
@@ -157,7 +157,7 @@ module _ (m : Namespace) (s : Stands Nothing (lone m)) (rest : AtRest (lone m)) 
       record {
         stands = emptied-stands m.root.number _ all.empty;
         pages = all.pages;
-        files = λ v a. all.files v (agrees-beside (fold change_row v changes) (lone m) (bare m) refl refl refl refl a);
+        files = λ v a. all.files v (agrees-beside (fold change_row v changes) (lone m) (bare m) (refl, refl, refl, refl) a);
       })
 
 -- the mount of `/` is emptied, where it is the only one

@@ -1,6 +1,6 @@
 -- The end unmounts everything, and keeps what holds.
-use Rattle.std.proofs.Common.{◌≡◌, ◌≢◌, ℕ, zero, suc, ◌+◌, ◌-◌, ◌<◌, Bool, true, false, not, if◌then◌else◌, Option, Some, None, is_none, List, [], ◌∷◌, ◌++◌, length, filter, fold, reverse, slice_index_or, inl, inr, refl, sym, ap, ◌∙◌, arith}
-use Rattle.std.proofs.lemmas.List.{get_or_past, length-append, reverse-append, reverse-reverse}
+use Rattle.std.proofs.Common.{◌≡◌, ◌≢◌, ℕ, zero, suc, ◌+◌, ◌-◌, ◌<◌, Bool, true, false, not, if◌then◌else◌, None, List, [], ◌∷◌, ◌++◌, length, filter, fold, reverse, slice_index_or, inl, inr, refl, sym, ap, ◌∙◌, arith}
+use Rattle.std.proofs.lemmas.List.{length-append, reverse-append, reverse-reverse}
 use Rattle.std.proofs.lemmas.Bool.{ltb-true}
 use Rattle.std.proofs.lemmas.List.Elements.{filter-append}
 use Rattle.std.specs.List.{list_any}
@@ -13,22 +13,22 @@ use Rattle.vfs_base.specs.declared.entry.Mark.TheVariants as mark
 use Rattle.vfs_model.specs.FileLife.{Rows}
 use Rattle.vfs_model.specs.Homes.{change_row}
 use Rattle.vfs_model.specs.Lookup.{covering_mount, has_mount_below, is_below, is_prefix, node_at}
-use Rattle.vfs_model.specs.Namespace.{all_mounts, folder_of, same_path}
+use Rattle.vfs_model.specs.Namespace.{all_mounts}
 use Rattle.vfs_model.specs.NamespaceStep.{shutdown_step}
 use Rattle.vfs_model.specs.UmountSteps.{come_to_rest, refers_to_mount, remove_all, remove_mount}
 use Rattle.vfs_model.specs.declared.namespace.Mount.{Mount}
 use Rattle.vfs_model.specs.declared.namespace.Namespace.{Namespace}
 use Rattle.vfs_model.specs.declared.namespace.RowChange.{RowChange}
-use Rattle.world_laws.proofs.Agreeing.{agrees-beside}
-use Rattle.world_laws.proofs.Keeping.{Keeps, same-kept}
-use Rattle.world_laws.proofs.Lists.{any-place, below-or-past, number-itself, other-number, true-or-false}
-use Rattle.world_laws.proofs.MountRemoval.{Removed, removal}
-use Rattle.world_laws.proofs.Passing.{and-second}
-use Rattle.world_laws.proofs.Resting.{rested}
-use Rattle.world_laws.proofs.RootRemoval.{AtRest, Ended, root-ended}
-use Rattle.world_laws.proofs.Standing.{Nothing, Stands}
-use Rattle.world_laws.proofs.UmountKeeping.{root-covers}
-use Rattle.world_laws.proofs.Unmounting.{MayLeave, stays}
+use Rattle.world_laws.proofs.parts.Agreeing.{agrees-beside}
+use Rattle.world_laws.proofs.steps.Keeping.{Keeps, same-kept}
+use Rattle.world_laws.proofs.lists.Lists.{any-place, below-or-past, number-itself, other-number, true-or-false}
+use Rattle.world_laws.proofs.steps.MountRemoval.{Removed, removal}
+use Rattle.world_laws.proofs.lists.Passing.{and-second}
+use Rattle.world_laws.proofs.steps.Resting.{rested}
+use Rattle.world_laws.proofs.steps.RootRemoval.{AtRest, Ended, root-ended}
+use Rattle.world_laws.proofs.parts.Standing.{Nothing, Stands}
+use Rattle.world_laws.proofs.steps.UmountKeeping.{root-covers}
+use Rattle.world_laws.proofs.steps.Unmounting.{MayLeave, stays}
 
 -- places of two lists, one behind the other
 at-front : {X : Type 0} (xs ys : List X) (place : ℕ) (d : X) → place < length xs → slice_index_or (xs ++ ys) place d ≡ slice_index_or xs place d
@@ -226,5 +226,5 @@ shutdown-kept n (mark.Fault moved) s =
     record {
       stands = stopped-stands (remove_all n).next all.stands;
       pages = all.pages;
-      files = λ v a. agrees-beside (fold change_row v (remove_all n).changes) (remove_all n).next (record (remove_all n).next { is_stopped = true }) refl refl refl refl (all.files v a);
+      files = λ v a. agrees-beside (fold change_row v (remove_all n).changes) (remove_all n).next (record (remove_all n).next { is_stopped = true }) (refl, refl, refl, refl) (all.files v a);
     }

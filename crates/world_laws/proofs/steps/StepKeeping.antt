@@ -8,15 +8,15 @@ use Rattle.vfs_base.specs.declared.step.Step.TheVariants as step
 use Rattle.vfs_model.specs.NamespaceOutcome.{NamespaceOutcome, settled}
 use Rattle.vfs_model.specs.NamespaceStep.{is_shutdown, namespace_answer, namespace_step, under_mark}
 use Rattle.vfs_model.specs.declared.namespace.Namespace.{Namespace}
-use Rattle.world_laws.proofs.FileKeepingSteps.{close-kept, map-kept, unmap-kept}
-use Rattle.world_laws.proofs.Keeping.{Keeps, Kept, same-kept}
-use Rattle.world_laws.proofs.MountEnd.{mount-kept}
-use Rattle.world_laws.proofs.MoveKeeping.{rename-kept}
-use Rattle.world_laws.proofs.NameKeeping.{chdir-kept, home-kept, list-kept, mkdir-kept, rmdir-kept, stat-kept, unlink-kept}
-use Rattle.world_laws.proofs.OpenKeeping.{open-kept}
-use Rattle.world_laws.proofs.ShutdownKeeping.{shutdown-kept}
-use Rattle.world_laws.proofs.Standing.{Nothing, Stands}
-use Rattle.world_laws.proofs.UmountKeeping.{umount-kept}
+use Rattle.world_laws.proofs.steps.FileKeepingSteps.{close-kept, map-kept, unmap-kept}
+use Rattle.world_laws.proofs.steps.Keeping.{Keeps, Kept, same-kept}
+use Rattle.world_laws.proofs.steps.MountEnd.{mount-kept}
+use Rattle.world_laws.proofs.steps.MoveKeeping.{rename-kept}
+use Rattle.world_laws.proofs.steps.NameKeeping.{chdir-kept, home-kept, list-kept, mkdir-kept, rmdir-kept, stat-kept, unlink-kept}
+use Rattle.world_laws.proofs.steps.OpenKeeping.{open-kept}
+use Rattle.world_laws.proofs.steps.ShutdownKeeping.{shutdown-kept}
+use Rattle.world_laws.proofs.parts.Standing.{Nothing, Stands}
+use Rattle.world_laws.proofs.steps.UmountKeeping.{umount-kept}
 
 -- it formats a volume: then bytes go from home as well
 abbrev pub is_mkfs : Step → Bool

@@ -10,14 +10,14 @@ use Rattle.vfs_model.specs.Namespace.{all_mounts, folder_of, same_path}
 use Rattle.vfs_model.specs.UmountSteps.{is_busy, mount_at_point, refers_to_mount, umount_at, umount_step}
 use Rattle.vfs_model.specs.declared.namespace.Mount.{Mount}
 use Rattle.vfs_model.specs.declared.namespace.Namespace.{Namespace}
-use Rattle.world_laws.proofs.Clear.{below-prefix}
-use Rattle.world_laws.proofs.Covering.{IsMount, covering-is, covers-prefix, one-number, one-point, prefix-length, same-prefix}
-use Rattle.world_laws.proofs.Keeping.{Kept, bind-kept, then-kept, wanted-kept}
-use Rattle.world_laws.proofs.Lists.{below-or-past, no-place, nor-first, nor-second, number-itself, place-any, same-or-other, same-some}
-use Rattle.world_laws.proofs.MountRemoval.{removal}
-use Rattle.world_laws.proofs.Passing.{refuse-passed}
-use Rattle.world_laws.proofs.Standing.{Nothing, Stands}
-use Rattle.world_laws.proofs.Unmounting.{MayLeave}
+use Rattle.world_laws.proofs.parts.Clear.{below-prefix}
+use Rattle.world_laws.proofs.parts.Covering.{IsMount, covering-is, covers-prefix, one-number, one-point, prefix-length, same-prefix}
+use Rattle.world_laws.proofs.steps.Keeping.{Kept, bind-kept, then-kept, wanted-kept}
+use Rattle.world_laws.proofs.lists.Lists.{below-or-past, no-place, nor-first, nor-second, number-itself, place-any, same-or-other, same-some}
+use Rattle.world_laws.proofs.steps.MountRemoval.{removal}
+use Rattle.world_laws.proofs.lists.Passing.{refuse-passed}
+use Rattle.world_laws.proofs.parts.Standing.{Nothing, Stands}
+use Rattle.world_laws.proofs.steps.Unmounting.{MayLeave}
 
 -- an item that a search finds
 pub record FoundAt {X : Type 0} (p : X → Bool) (xs : List X) (x : X) : Type 0 where

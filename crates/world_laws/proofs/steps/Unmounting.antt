@@ -1,5 +1,5 @@
 -- A mount that is not busy goes, with all its files.
-use Rattle.std.proofs.Common.{◌≡◌, ◌≢◌, ℕ, zero, suc, ◌-◌, ◌<◌, ◌≤◌, Bool, true, false, cond, not, ◌||◌, ◌&&◌, ◌==◌, T, Option, Some, None, is_some, IsSomeAnd, List, [], ◌∷◌, ◌++◌, length, map, filter, drop, slice_index_or, slice_set, ◌⊎◌, inl, inr, if◌then◌else◌, refl, sym, ap, subst, ◌∙◌, arith}
+use Rattle.std.proofs.Common.{◌≡◌, ◌≢◌, ℕ, suc, ◌-◌, ◌<◌, ◌≤◌, Bool, true, false, cond, not, ◌||◌, ◌&&◌, ◌==◌, T, Option, Some, None, is_some, IsSomeAnd, List, [], ◌∷◌, ◌++◌, length, map, filter, drop, slice_index_or, slice_set, ◌⊎◌, inl, inr, if◌then◌else◌, refl, sym, ap, subst, ◌∙◌, arith}
 use Rattle.std.proofs.lemmas.List.{length-set, set_past}
 use Rattle.std.proofs.lemmas.List.Folds.{position_or_len-set}
 use Rattle.std.proofs.lemmas.List.Sums.{count_by-le-length, length-filter, passes_at_first}
@@ -28,19 +28,19 @@ use Rattle.vfs_model.specs.declared.namespace.KeptNode.{KeptNode}
 use Rattle.vfs_model.specs.declared.namespace.LiveFile.{LiveFile}
 use Rattle.vfs_model.specs.declared.namespace.Mount.{Mount}
 use Rattle.vfs_model.specs.declared.namespace.Namespace.{Namespace}
-use Rattle.world_laws.proofs.Binding.{Rest}
-use Rattle.world_laws.proofs.Covering.{IsMount, one-number}
-use Rattle.world_laws.proofs.Emptying.{InRows, RowsLeft, of-mount}
-use Rattle.world_laws.proofs.Filters.{PassingDiffer, filter-holds, kept-apart, kept_place, kept-rising, kept-within}
-use Rattle.world_laws.proofs.Leaving.{in-left, rows-in, rows-left}
-use Rattle.world_laws.proofs.Lists.{AnyPlace, any-place, below-or-past, no-place, number-itself, or-either, or-first, or-second, other-number, same-number, same-or-other, same-some, set-here, set-there, some-within, true-or-false}
-use Rattle.world_laws.proofs.Passing.{and-first, and-second}
-use Rattle.world_laws.proofs.Points.{point-covers}
-use Rattle.world_laws.proofs.Clear.{below-prefix}
-use Rattle.world_laws.proofs.Covering.{prefix-length, same-prefix}
-use Rattle.world_laws.proofs.Nodes.{prefix-itself}
-use Rattle.world_laws.proofs.Standing.{Held, IsUsed, Linked, Nothing, Stands}
-use Rattle.world_laws.proofs.Taking.{BoxesBut, boxes-but, set-at}
+use Rattle.world_laws.proofs.parts.Binding.{Rest}
+use Rattle.world_laws.proofs.parts.Covering.{IsMount, one-number}
+use Rattle.world_laws.proofs.parts.Emptying.{InRows, RowsLeft, of-mount}
+use Rattle.world_laws.proofs.lists.Filters.{PassingDiffer, filter-holds, kept-apart, kept_place, kept-rising, kept-within}
+use Rattle.world_laws.proofs.lists.Leaving.{in-left, rows-in, rows-left}
+use Rattle.world_laws.proofs.lists.Lists.{AnyPlace, any-place, below-or-past, no-place, number-itself, or-either, or-first, or-second, other-number, same-number, same-or-other, same-some, set-here, set-there, some-within, true-or-false}
+use Rattle.world_laws.proofs.lists.Passing.{and-first, and-second}
+use Rattle.world_laws.proofs.parts.Points.{point-covers}
+use Rattle.world_laws.proofs.parts.Clear.{below-prefix}
+use Rattle.world_laws.proofs.parts.Covering.{prefix-length, same-prefix}
+use Rattle.world_laws.proofs.parts.Nodes.{prefix-itself}
+use Rattle.world_laws.proofs.parts.Standing.{Held, IsUsed, Linked, Nothing, Stands}
+use Rattle.world_laws.proofs.parts.Taking.{BoxesBut, boxes-but, set-at}
 
 -- the test by which a mount is left out
 abbrev pub stays : ℕ → Mount → Bool

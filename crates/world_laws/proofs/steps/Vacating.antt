@@ -29,15 +29,15 @@ use Rattle.vfs_model.specs.declared.namespace.KeptNode.TheVariants as kept
 use Rattle.vfs_model.specs.declared.namespace.LiveFile.{LiveFile}
 use Rattle.vfs_model.specs.declared.namespace.Mount.{Mount}
 use Rattle.vfs_model.specs.declared.namespace.Namespace.{Namespace}
-use Rattle.world_laws.proofs.Emptying.{AllAbove, Empty, InRows, RowsLeft, twice}
-use Rattle.world_laws.proofs.Counting.{some-count}
-use Rattle.world_laws.proofs.Leaving.{count-any, in-left, one-place, rows-left, unique-count}
-use Rattle.world_laws.proofs.Lists.{any-node, below-or-past, node-any, number-itself, place-any, other-number, same-number, same-or-other, same-some, true-or-false}
-use Rattle.world_laws.proofs.OpenKeeping.{numbered}
-use Rattle.world_laws.proofs.Passing.{and-first, and-second}
-use Rattle.world_laws.proofs.Standing.{Nothing, Stands}
-use Rattle.world_laws.proofs.Taking.{BoxesBut, DevicesPlaced}
-use Rattle.world_laws.proofs.Unmounting.{MayLeave, all-left, cell-left, keep-named, keep-other, keep-own, keep-pages, keep-spare, left-rest, left-rows, left-same, left_by, linked-own, name-at, names-sorted, not-held, other-left, own-linked, own-name, row-life, row-of, stays, there-before}
+use Rattle.world_laws.proofs.parts.Emptying.{AllAbove, Empty, InRows, RowsLeft, twice}
+use Rattle.world_laws.proofs.lists.Counting.{some-count}
+use Rattle.world_laws.proofs.lists.Leaving.{count-any, in-left, one-place, rows-left, unique-count}
+use Rattle.world_laws.proofs.lists.Lists.{any-node, below-or-past, node-any, number-itself, place-any, other-number, same-number, same-or-other, same-some, true-or-false}
+use Rattle.world_laws.proofs.steps.OpenKeeping.{numbered}
+use Rattle.world_laws.proofs.lists.Passing.{and-first, and-second}
+use Rattle.world_laws.proofs.parts.Standing.{Nothing, Stands}
+use Rattle.world_laws.proofs.parts.Taking.{BoxesBut, DevicesPlaced}
+use Rattle.world_laws.proofs.steps.Unmounting.{MayLeave, all-left, cell-left, keep-named, keep-other, keep-own, keep-pages, keep-spare, left-rest, left-rows, left-same, left_by, linked-own, name-at, names-sorted, not-held, other-left, own-linked, own-name, row-life, row-of, stays, there-before}
 
 -- a row of a list that passes
 pub some-row : (p : ℕ → Bool) (rows : List ℕ) → 0 < count_by p rows → (row : ℕ) × InRows rows row × (p row ≡ true)

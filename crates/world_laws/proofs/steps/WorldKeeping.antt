@@ -11,8 +11,8 @@ use Rattle.vfs_model.specs.Namespace.{generation_at, life_at}
 use Rattle.vfs_model.specs.declared.world.FileState.{FileState}
 use Rattle.vfs_model.specs.declared.world.FileState.TheVariants as file
 use Rattle.vfs_model.specs.declared.world.WorldState.{WorldState}
-use Rattle.world_laws.proofs.FileKeeping.{KeepsAgreeing, file_step-agrees, file_step-capacity}
-use Rattle.world_laws.proofs.Lists.{below-or-past, same-or-other}
+use Rattle.world_laws.proofs.parts.FileKeeping.{KeepsAgreeing, file_step-agrees, file_step-capacity}
+use Rattle.world_laws.proofs.lists.Lists.{below-or-past, same-or-other}
 
 -- the file of a row, after the file of a row was set
 file-set : (w : WorldState) (row other : ℕ) (f : FileState) → other - 1 ≢ row - 1 → file_at (with_file w row f) other ≡ file_at w other

@@ -1,5 +1,5 @@
 -- Every step, and every list of steps, keeps the world consistent.
-use Rattle.std.proofs.Common.{◌≡◌, ℕ, zero, suc, ◌*◌, ◌≤◌, Bool, true, false, not, ◌||◌, Option, Some, None, is_some, List, [], ◌∷◌, fold, length, map, slice_index_or, inl, inr, if◌then◌else◌, refl, sym, ap, subst, ◌∙◌, arith}
+use Rattle.std.proofs.Common.{◌≡◌, ℕ, zero, suc, ◌*◌, ◌≤◌, Bool, true, false, not, ◌||◌, Option, Some, None, is_some, List, [], ◌∷◌, fold, length, map, slice_index_or, inl, inr, refl, sym, ap, subst, ◌∙◌, arith}
 use Rattle.std.specs.List.{list_any}
 use Rattle.vfs_base.specs.declared.entry.Mark.{Mark}
 use Rattle.vfs_base.specs.declared.entry.Mark.TheVariants as mark
@@ -30,17 +30,17 @@ use Rattle.vfs_model.specs.declared.namespace.Namespace.{Namespace}
 use Rattle.vfs_model.specs.declared.namespace.RowChange.{RowChange}
 use Rattle.vfs_model.specs.declared.world.Homes.{Homes}
 use Rattle.vfs_model.specs.declared.world.WorldState.{WorldState}
-use Rattle.world_laws.proofs.Agreeing.{Agrees}
-use Rattle.world_laws.proofs.AtHome.{AtHome}
-use Rattle.world_laws.proofs.HomesKeeping.{at-home-of, home-formatted, homes-fit-of}
-use Rattle.world_laws.proofs.Keeping.{Keeps}
-use Rattle.world_laws.proofs.Lists.{or-second, true-or-false}
-use Rattle.world_laws.proofs.MkfsKeeping.{format-named, format-pages, format-stands}
-use Rattle.world_laws.proofs.Passing.{and-first}
-use Rattle.world_laws.proofs.Standing.{Nothing, Stands, consistent-of, stands-of}
-use Rattle.world_laws.proofs.StepKeeping.{Takes, namespace-kept}
-use Rattle.world_laws.proofs.Taking.{set-at}
-use Rattle.world_laws.proofs.WorldKeeping.{file-consistent}
+use Rattle.world_laws.proofs.parts.Agreeing.{Agrees}
+use Rattle.world_laws.proofs.parts.AtHome.{AtHome}
+use Rattle.world_laws.proofs.parts.HomesKeeping.{at-home-of, home-formatted, homes-fit-of}
+use Rattle.world_laws.proofs.steps.Keeping.{Keeps}
+use Rattle.world_laws.proofs.lists.Lists.{or-second, true-or-false}
+use Rattle.world_laws.proofs.steps.MkfsKeeping.{format-named, format-pages, format-stands}
+use Rattle.world_laws.proofs.lists.Passing.{and-first}
+use Rattle.world_laws.proofs.parts.Standing.{Nothing, Stands, consistent-of, stands-of}
+use Rattle.world_laws.proofs.steps.StepKeeping.{Takes, namespace-kept}
+use Rattle.world_laws.proofs.parts.Taking.{set-at}
+use Rattle.world_laws.proofs.steps.WorldKeeping.{file-consistent}
 use Rattle.world_laws.specs.Keeping.{HasNumber, MayRun}
 
 -- what a step keeps, and the changes of rows, leave the world consistent
