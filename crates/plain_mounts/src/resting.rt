@@ -1,10 +1,11 @@
 //! The end of all use: no reference is left, each session is in `/`, and files without a name go.
 
-ghost use Rattle.std.specs.Prelude.{◌≡◌, [], ◌+◌, ◌<◌, ◌≤◌, ◌&&◌, not, is_some, length, map, fold, drop, slice_set, vec_len, vec_capacity, if◌then◌else◌};
-ghost use Rattle.vfs_model.specs.FileLife.{end_of_dropped, free_row, is_linked};
+ghost use Rattle.std.specs.Prelude.{◌≡◌, [], ◌+◌, ◌<◌, ◌≤◌, ◌&&◌, not, is_some, length, map, drop, slice_set, vec_len, vec_capacity};
+ghost use Rattle.vfs_model.specs.FileLife.{end_of_dropped, is_linked};
 ghost use Rattle.vfs_model.specs.Namespace.{life_at};
-ghost use Rattle.vfs_model.specs.UmountSteps.{come_to_rest, unlinked_rows};
+ghost use Rattle.vfs_model.specs.UmountSteps.{come_to_rest};
 ghost use Rattle.plain_mounts.specs.Leaving.{live_count, rows_so_far, TreesShrink};
+ghost use Rattle.plain_mounts.specs.Resting.{free_if_unlinked, free_unlinked};
 
 use plain_nodes::changes::Change;
 use plain_nodes::rows::{end_of_dropped, free_row, is_linked};
@@ -57,8 +58,7 @@ fn leave_folder(working_directories: &mut List<Path>, place: usize)
 fn free_unlinked(namespace: &mut Namespace, changes: &mut Vec<Change>)
     requires live_files { length namespace.old.live_files ≡ 1024 }
     requires room { vec_len changes.old + live_count namespace.old ≤ vec_capacity changes.old }
-    ensures next { fold (free_row end_of_dropped) (rows_so_far namespace.old changes.old.items) (unlinked_rows namespace.old)
-        ≡ rows_so_far namespace.new changes.new.items }
+    ensures next { free_unlinked (rows_so_far namespace.old changes.old.items) ≡ rows_so_far namespace.new changes.new.items }
     ensures live_files { length namespace.new.live_files ≡ 1024 }
     ensures trees { namespace.new.trees ≡ namespace.old.trees }
     ensures room { vec_len changes.new + live_count namespace.new ≤ vec_capacity changes.new }
@@ -75,8 +75,7 @@ fn free_if_unlinked(namespace: &mut Namespace, place: u16, changes: &mut Vec<Cha
     requires live_files { length namespace.old.live_files ≡ 1024 }
     requires room { vec_len changes.old + live_count namespace.old ≤ vec_capacity changes.old }
     ensures next { rows_so_far namespace.new changes.new.items
-        ≡ (if is_some (life_at namespace.old (place + 1)) && not (is_linked namespace.old (place + 1))
-        then free_row end_of_dropped (rows_so_far namespace.old changes.old.items) (place + 1) else rows_so_far namespace.old changes.old.items) }
+        ≡ free_if_unlinked (rows_so_far namespace.old changes.old.items) (place + 1) }
     ensures later { drop (place + 1) namespace.new.live_files ≡ drop (place + 1) namespace.old.live_files }
     ensures live_files { length namespace.new.live_files ≡ 1024 }
     ensures trees { namespace.new.trees ≡ namespace.old.trees }

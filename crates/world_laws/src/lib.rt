@@ -4,6 +4,24 @@
 //! docs/STEPS.md, "What holds between steps". It has no code, and knows none.
 #![tactic(auto)]
 
+// What is proved where, in `proofs`.
+//
+// `lists`: places, counts and filters (Lists, Counting, Filters, Leaving); chains of refusals (Passing).
+//
+// `parts`, the parts of consistency, each where one thing changes. Standing has them for a namespace on its way through a step.
+// - rows agree, cells fit: Agreeing, FileKeeping
+// - homes fit: AtHome, HomesKeeping
+// - references live, rows are used: Standing, Referring, FreeRows, Binding, Freeing
+// - folders stand: Covering, Points, Clear
+// - trees are closed: Nodes, Growing, Removing, TreeParts, TreeMoves; what a mount begins with: Contents
+// - boxes are placed, live files fit: Taking, Binding, Freeing, Emptying; what changes nothing of it: Beside
+//
+// `steps`: Keeping says what a step keeps, and StepKeeping has a case for each.
+// - on names: NameKeeping; Open: OpenKeeping; Close, Map, Unmap: FileKeepingSteps; Rename: Renaming, MoveKeeping
+// - Mount: Adding, MountKeeping, Filling, FillAll, MountEnd; what a rom shows then: RomFiles, RomMount; Mkfs: MkfsKeeping
+// - Umount: Unmounting, Vacating, MountRemoval, UmountKeeping; Shutdown: Resting, RootRemoval, ShutdownKeeping
+// - of one file: WorldKeeping; every step and every list of steps: WorldSteps; the start: Opening
+
 ghost use Rattle.world_laws.specs.Mounted.{MountedRomShowsItsFiles};
 ghost use Rattle.world_laws.specs.Keeping.{AskedMayBeTaken, FileStepsKeepConsistency, OpeningIsConsistent, RunsKeepConsistency, StepsKeepConsistency};
 

@@ -1,4 +1,4 @@
-use Rattle.world_laws.proofs.WorldSteps.{asked-taken}
+use Rattle.world_laws.proofs.steps.WorldSteps.{asked-taken}
 use Rattle.world_laws.proofs.asked_may_be_taken.Goals as goal
 
 pub returns : goal.returns

@@ -1,4 +1,4 @@
-use Rattle.world_laws.proofs.WorldKeeping.{file-consistent}
+use Rattle.world_laws.proofs.steps.WorldKeeping.{file-consistent}
 use Rattle.world_laws.proofs.file_steps_keep_consistency.Goals as goal
 
 pub returns : goal.returns

@@ -1,4 +1,4 @@
-use Rattle.world_laws.proofs.RomMount.{mounted-rom}
+use Rattle.world_laws.proofs.steps.RomMount.{mounted-rom}
 use Rattle.world_laws.proofs.mounted_rom_shows_its_files.Goals as goal
 
 pub returns : goal.returns

@@ -1,4 +1,4 @@
-use Rattle.world_laws.proofs.WorldSteps.{run-consistent}
+use Rattle.world_laws.proofs.steps.WorldSteps.{run-consistent}
 use Rattle.world_laws.proofs.runs_keep_consistency.Goals as goal
 
 pub returns : goal.returns

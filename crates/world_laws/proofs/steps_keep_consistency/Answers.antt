@@ -1,4 +1,4 @@
-use Rattle.world_laws.proofs.WorldSteps.{step-consistent}
+use Rattle.world_laws.proofs.steps.WorldSteps.{step-consistent}
 use Rattle.world_laws.proofs.steps_keep_consistency.Goals as goal
 
 pub returns : goal.returns

@@ -1,0 +1,22 @@
+-- The parts of consistency, and how each is kept where one thing changes.
+pub mod Agreeing
+pub mod AtHome
+pub mod Beside
+pub mod Binding
+pub mod Clear
+pub mod Contents
+pub mod Covering
+pub mod Emptying
+pub mod FileKeeping
+pub mod FreeRows
+pub mod Freeing
+pub mod Growing
+pub mod HomesKeeping
+pub mod Nodes
+pub mod Points
+pub mod Referring
+pub mod Removing
+pub mod Standing
+pub mod Taking
+pub mod TreeMoves
+pub mod TreeParts

@@ -1,0 +1,26 @@
+-- The steps: each keeps what holds, and so does every list of them.
+pub mod Adding
+pub mod FileKeepingSteps
+pub mod FillAll
+pub mod Filling
+pub mod Keeping
+pub mod MkfsKeeping
+pub mod MountEnd
+pub mod MountKeeping
+pub mod MountRemoval
+pub mod MoveKeeping
+pub mod NameKeeping
+pub mod OpenKeeping
+pub mod Opening
+pub mod Renaming
+pub mod Resting
+pub mod RomFiles
+pub mod RomMount
+pub mod RootRemoval
+pub mod ShutdownKeeping
+pub mod StepKeeping
+pub mod UmountKeeping
+pub mod Unmounting
+pub mod Vacating
+pub mod WorldKeeping
+pub mod WorldSteps
