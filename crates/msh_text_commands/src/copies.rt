@@ -136,30 +136,27 @@ impl CopyCommand {
         }
     }
 
-    // A command that has lost its text behind the reply, and has the same references.
-    fn lost_behind(&self, alloc: Global, reply: &Reply) -> CopyCommand
+    // A command that has lost its text behind the reply, and has the same references. The text that is
+    // handed in stands for what is lost.
+    fn lost_behind(&self, text: Bytes, reply: &Reply) -> CopyCommand
         ensures { (state : ShellState) → (copy_talk result state []).own ≡ own_behind self.now reply.now }
     {
         match (self, reply) {
             (CopyCommand::Open { .. }, Reply::Opened { hold, file, kind }) => {
-                source_lost(alloc, open_end(alloc, *hold, *file, *kind))
+                source_lost(open_end(text, *hold, *file, *kind))
             }
             (CopyCommand::OpenTo { src, .. }, Reply::Opened { hold, file, kind }) => {
-                both_lost(
-                    alloc,
-                    lost_end(alloc, src),
-                    open_end(alloc, *hold, *file, *kind),
-                )
+                both_lost(lost_end(src), open_end(text, *hold, *file, *kind))
             }
             (CopyCommand::OpenTo { src, .. }, Reply::Refused { .. })
             | (CopyCommand::CloseTo { src, .. }, Reply::Done | Reply::Refused { .. }) => {
-                source_lost(alloc, lost_end(alloc, src))
+                source_lost(lost_end(src))
             }
             (CopyCommand::Cut { src, dst }, Reply::Done | Reply::Refused { .. })
             | (CopyCommand::Read { src, dst, .. }, Reply::Got { .. } | Reply::Refused { .. })
             | (CopyCommand::Write { src, dst, .. }, Reply::Count { .. } | Reply::Refused { .. }) =>
-                { both_lost(alloc, lost_end(alloc, src), lost_end(alloc, dst)) }
-            _ => shown(Bytes::new(alloc)),
+                { both_lost(lost_end(src), lost_end(dst)) }
+            _ => shown(text),
         }
     }
 
@@ -173,7 +170,7 @@ impl CopyCommand {
         ensures kept { (state : ShellState) → (copy_talk self.old state (reply.now ∷ [])).state ≡ state }
         ensures own { OnErr result ((state before : ShellState) → (copy_talk self.new state []).own ≡ (copy_talk self.old before (reply.now ∷ [])).own) }
     {
-        let lost = self.lost_behind(alloc, reply);
+        let lost = self.lost_behind(Bytes::new(alloc), reply);
         let command = mem::replace(self, lost);
         *self = command.fed(alloc, reply)?;
         Ok(())
@@ -203,11 +200,10 @@ impl CopyCommand {
     }
 }
 
-// A file that is open, without its word.
-fn open_end(alloc: Global, hold: HoldId, file: FileId, kind: Kind) -> CopyEnd
+// A file that is open, of this word.
+fn open_end(word: Bytes, hold: HoldId, file: FileId, kind: Kind) -> CopyEnd
     ensures { result.hold ≡ hold }
 {
-    let word = Bytes::new(alloc);
     CopyEnd {
         word,
         hold,
@@ -217,25 +213,25 @@ fn open_end(alloc: Global, hold: HoldId, file: FileId, kind: Kind) -> CopyEnd
 }
 
 // The same file, without its word.
-fn lost_end(alloc: Global, end: &CopyEnd) -> CopyEnd
+fn lost_end(end: &CopyEnd) -> CopyEnd
     ensures { result.hold ≡ end.now.hold }
 {
-    open_end(alloc, end.hold, end.file, end.kind)
+    open_end(end.word.empty_like(), end.hold, end.file, end.kind)
 }
 
 // A command that has lost its text, and has the source alone.
-fn source_lost(alloc: Global, src: CopyEnd) -> CopyCommand
+fn source_lost(src: CopyEnd) -> CopyCommand
     ensures { (state : ShellState) → (copy_talk result state []).own ≡ own_source src }
 {
-    let text = Bytes::new(alloc);
+    let text = src.word.empty_like();
     CopyCommand::CloseFrom { src, text }
 }
 
 // A command that has lost its text, and has both files.
-fn both_lost(alloc: Global, src: CopyEnd, dst: CopyEnd) -> CopyCommand
+fn both_lost(src: CopyEnd, dst: CopyEnd) -> CopyCommand
     ensures { (state : ShellState) → (copy_talk result state []).own ≡ both src dst }
 {
-    let text = Bytes::new(alloc);
+    let text = src.word.empty_like();
     CopyCommand::CloseTo { src, dst, text }
 }
 
@@ -409,7 +405,7 @@ fn copy_read(
 }
 
 // Behind the last byte a character device is not read again.
-fn copy_left(alloc: Global, src: CopyEnd, dst: CopyEnd, place: u64, bytes: Unwritten) -> CopyCommand
+fn copy_left(src: CopyEnd, dst: CopyEnd, place: u64, bytes: Unwritten) -> CopyCommand
     ensures { copy_talk result ≡ copy_after src dst (copy_left_round (file_of src) (file_of dst) place bytes) }
 {
     if !bytes.is_empty() {
@@ -421,11 +417,8 @@ fn copy_left(alloc: Global, src: CopyEnd, dst: CopyEnd, place: u64, bytes: Unwri
         };
     }
     if matches!(src.kind, Kind::Chr) {
-        return CopyCommand::CloseTo {
-            src,
-            dst,
-            text: Bytes::new(alloc),
-        };
+        let text = src.word.empty_like();
+        return CopyCommand::CloseTo { src, dst, text };
     }
     CopyCommand::Read { src, dst, place }
 }
@@ -444,7 +437,7 @@ fn copy_written(
     match reply {
         Reply::Count { n, .. } => {
             bytes.advance(*n);
-            Ok(copy_left(alloc, src, dst, moved_offset(place, *n), bytes))
+            Ok(copy_left(src, dst, moved_offset(place, *n), bytes))
         }
         Reply::Refused { errno } => {
             let mut text = Bytes::new(alloc);

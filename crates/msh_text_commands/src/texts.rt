@@ -159,7 +159,7 @@ impl TextCommand {
         ensures kept { (state : ShellState) → (text_talk self.old state (reply.now ∷ [])).state ≡ state }
         ensures own { OnErr result ((state before : ShellState) → (text_talk self.new state []).own ≡ (text_talk self.old before (reply.now ∷ [])).own) }
     {
-        let lost = given_up(alloc, self.hold_behind(reply));
+        let lost = given_up(Bytes::new(alloc), self.hold_behind(reply));
         let command = mem::replace(self, lost);
         *self = command.fed(alloc, reply)?;
         Ok(())
@@ -173,9 +173,7 @@ impl TextCommand {
     {
         match self {
             TextCommand::Shown { text } => Ok(shown(text)),
-            TextCommand::CatOpen { word, others, text } => {
-                cat_opened(alloc, word, others, text, reply)
-            }
+            TextCommand::CatOpen { word, others, text } => { cat_opened(word, others, text, reply) }
             TextCommand::CatRead { reading } => cat_read(reading, reply),
             TextCommand::CatClose {
                 word,
@@ -210,17 +208,17 @@ pub fn shown(text: Bytes) -> TextCommand
     TextCommand::Shown { text }
 }
 
-// A command that has lost its text, and has this reference.
-fn given_up(alloc: Global, hold: Option<HoldId>) -> TextCommand
+// A command that has lost its text, and has this reference. The text that is handed in stands for what is
+// lost.
+fn given_up(text: Bytes, hold: Option<HoldId>) -> TextCommand
     ensures { (state : ShellState) → (text_talk result state []).own ≡ own_of hold }
 {
     match hold {
-        None => shown(Bytes::new(alloc)),
-        Some(hold) => TextCommand::CatEnd {
-            word: Bytes::new(alloc),
-            hold,
-            text: Bytes::new(alloc),
-        },
+        None => shown(text),
+        Some(hold) => {
+            let word = text.empty_like();
+            TextCommand::CatEnd { word, hold, text }
+        }
     }
 }
 
@@ -268,7 +266,6 @@ fn cat_closed(
 }
 
 fn cat_opened(
-    alloc: Global,
     word: Bytes,
     others: VecDeque<Bytes>,
     text: Bytes,
@@ -353,17 +350,11 @@ fn cat_read(reading: CatReading, reply: &Reply) -> Result<TextCommand, NoMemory>
 }
 
 // What is left of the text is appended.
-fn echo_left(
-    alloc: Global,
-    word: Bytes,
-    hold: HoldId,
-    file: FileId,
-    bytes: Unwritten,
-) -> TextCommand
+fn echo_left(word: Bytes, hold: HoldId, file: FileId, bytes: Unwritten) -> TextCommand
     ensures { text_talk result ≡ echo_after word hold file (echo_left_round word hold bytes) }
 {
     if bytes.is_empty() {
-        let text = Bytes::new(alloc);
+        let text = word.empty_like();
         return TextCommand::EchoEnd { word, hold, text };
     }
     TextCommand::EchoAppend {
@@ -386,7 +377,7 @@ fn echo_opened(
     match reply {
         Reply::Opened { hold, file, .. } => {
             let bytes = Unwritten::new(text);
-            Ok(echo_left(alloc, word, *hold, *file, bytes))
+            Ok(echo_left(word, *hold, *file, bytes))
         }
         Reply::Refused { errno } => {
             let text = subject_error_text(alloc, b"echo", word.as_slice(), *errno)?;
@@ -409,7 +400,7 @@ fn echo_appended(
     match reply {
         Reply::Count { n, .. } => {
             bytes.advance(*n);
-            Ok(echo_left(alloc, word, hold, file, bytes))
+            Ok(echo_left(word, hold, file, bytes))
         }
         Reply::Refused { errno } => {
             let text = subject_error_text(alloc, b"echo", word.as_slice(), *errno)?;
