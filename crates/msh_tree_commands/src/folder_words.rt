@@ -90,7 +90,7 @@ fn rm(alloc: Global, words: &[Bytes]) -> Result<FolderCommand, NoMemory>
         [] => usage(alloc, b"rm PATH.."),
         _ => {
             let words = copy_words(alloc, words)?;
-            Ok(remove_all(alloc, words))
+            Ok(remove_all(words))
         }
     }
 }

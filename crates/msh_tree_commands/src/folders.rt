@@ -297,11 +297,11 @@ fn sized(
 }
 
 /// One word after the other is removed.
-pub fn remove_all(alloc: Global, mut words: VecDeque<Bytes>) -> FolderCommand
+pub fn remove_all(mut words: VecDeque<Bytes>) -> FolderCommand
     ensures { folder_talk result ≡ remove_talk words.items }
 {
     match words.pop_front() {
-        None => shown(Bytes::new(alloc)),
+        None => shown(Bytes::new(*words.allocator())),
         Some(word) => FolderCommand::Rm {
             word,
             others: words,
@@ -318,7 +318,7 @@ fn removed(
     ensures { IfOk result (λ next. folder_talk next ≡ removed_talk word.now (remove_talk others.items) reply.now) }
 {
     match reply {
-        Reply::Done => Ok(remove_all(alloc, others)),
+        Reply::Done => Ok(remove_all(others)),
         Reply::Refused { errno } => {
             let text = subject_error_text(alloc, b"rm", word.as_slice(), *errno)?;
             Ok(shown(text))

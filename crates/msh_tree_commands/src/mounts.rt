@@ -190,11 +190,11 @@ fn holders_told(alloc: Global, reply: &Reply) -> Result<MountCommand, NoMemory>
 }
 
 // One file after the other is written back.
-fn sync_files(alloc: Global, mut files: VecDeque<FileId>) -> MountCommand
+fn sync_files(mut files: VecDeque<FileId>) -> MountCommand
     ensures { mount_talk result ≡ sync_talk files.items }
 {
     match files.pop_front() {
-        None => shown(Bytes::new(alloc)),
+        None => shown(Bytes::new(*files.allocator())),
         Some(file) => MountCommand::SyncFile {
             file,
             others: files,
@@ -208,7 +208,7 @@ fn cells_told(alloc: Global, reply: &Reply) -> Result<MountCommand, NoMemory>
     match reply {
         Reply::Files { files } => {
             let files = Vec::from_slice(alloc, files.as_slice())?;
-            Ok(sync_files(alloc, VecDeque::from_vec(files)))
+            Ok(sync_files(VecDeque::from_vec(files)))
         }
         Reply::Refused { errno } => {
             let text = error_text(alloc, b"sync", *errno)?;
@@ -227,8 +227,8 @@ fn synced(
     ensures { IfOk result (λ next. mount_talk next ≡ synced_talk file (sync_talk others.items) reply.now) }
 {
     match reply {
-        Reply::Done => Ok(sync_files(alloc, others)),
-        Reply::Refused { errno } if is_absent(*errno) => Ok(sync_files(alloc, others)),
+        Reply::Done => Ok(sync_files(others)),
+        Reply::Refused { errno } if is_absent(*errno) => Ok(sync_files(others)),
         Reply::Refused { errno } => {
             let subject = row_text(alloc, file.row)?;
             let text = subject_error_text(alloc, b"sync", subject.as_slice(), *errno)?;
