@@ -277,5 +277,5 @@ pub(crate) fn place_of(k: SessionId) -> usize
     ensures bound { result < 8 }
     ensures number { IsNumber k }
 {
-    k.place()
+    k.number() as usize - 1
 }

@@ -47,7 +47,7 @@ impl Stage {
         ensures asks { IfOk result (λ step. IfSome step (AsksStep self.now.sessions.items who)) }
     {
         match who {
-            Who::Session { k } => self.sessions[k.place()].wanted(alloc),
+            Who::Session { k } => self.sessions[place_of(k)].wanted(alloc),
             Who::Flush { row } => Ok(Some(Step::Flush { row })),
             Who::Reclaim { row } => Ok(Some(Step::Reclaim { row })),
             Who::End if self.are_through() => Ok(Some(Step::Shutdown)),
@@ -84,7 +84,7 @@ impl Stage {
         let Who::Session { k } = who else {
             return Ok(());
         };
-        self.sessions[k.place()].hear(alloc, deck.acts.as_slice(), reply)
+        self.sessions[place_of(k)].hear(alloc, deck.acts.as_slice(), reply)
     }
 
     // Whether all sessions are through with their lines and their exits.
@@ -132,4 +132,13 @@ fn session_at(place: u8) -> SessionId
         Some(k) => k,
         None => SessionId::FIRST,
     }
+}
+
+// The place of a session among all.
+fn place_of(k: SessionId) -> usize
+    ensures place { result ≡ k - 1 }
+    ensures bound { result < 8 }
+    ensures least { 1 ≤ k }
+{
+    k.number() as usize - 1
 }
