@@ -1,12 +1,17 @@
 #!/bin/sh
-# Tries every wrong body of the repository, those of the gate (must-fail/*.edit) and those kept beside it (must-fail/*.md), on a
-# copy: the prover must refuse each. It is no part of the gate, which tries the first alone. Words are names of crates; none
-# means all. Its last line is `N refused, M not`.
+# Tries the wrong bodies of the repository, those of the gate (must-fail/*.edit) and those kept beside it (must-fail/*.md), on a
+# copy: the prover must refuse each. It is no part of the gate, which tries the first alone; with --beside it tries only the
+# second. Further words are names of crates; none means all. Its last line is `N refused, M not`.
 cd "$(dirname "$0")/.." || exit 2
+beside=
+case $1 in
+--beside) beside=1; shift ;;
+esac
 work=$(mktemp -d) || exit 2
 trap 'rm -rf "$work"' EXIT
 git ls-files -z crates crates.txt HANDLES | xargs -0 cp --parents -t "$work" || exit 2
 cd "$work" || exit 2
+[ -z "$beside" ] || rm -f crates/*/must-fail/*.edit
 for kept in crates/*/must-fail/*.md; do
     [ -e "$kept" ] && mv "$kept" "${kept%.md}.edit"
 done
