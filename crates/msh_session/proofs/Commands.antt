@@ -18,8 +18,8 @@ use Rattle.msh_text_commands.specs.declared.copies.CopyCommand.{CopyCommand}
 use Rattle.msh_text_commands.specs.declared.copies.CopyCommand.TheVariants as copies
 use Rattle.msh_file_commands.specs.declared.files.FileCommand.{FileCommand}
 use Rattle.msh_file_commands.specs.declared.files.FileCommand.TheVariants as files
-use Rattle.msh_tree_commands.specs.declared.working_directories.FolderCommand.{FolderCommand}
-use Rattle.msh_tree_commands.specs.declared.working_directories.FolderCommand.TheVariants as working_directories
+use Rattle.msh_tree_commands.specs.declared.folders.FolderCommand.{FolderCommand}
+use Rattle.msh_tree_commands.specs.declared.folders.FolderCommand.TheVariants as folders
 use Rattle.msh_file_commands.specs.declared.mappings.MappingCommand.{MappingCommand}
 use Rattle.msh_file_commands.specs.declared.mappings.MappingCommand.TheVariants as mappings
 use Rattle.msh_tree_commands.specs.declared.mounts.MountCommand.{MountCommand}
@@ -41,9 +41,9 @@ shown-rests text = record {
   finished = λ before state other replies e. let same : text ≡ other = cc in ap (λ t. shows t state replies) same;
 }
 
-working_directories-rest : (c : FolderCommand) → Rests (folder_talk c)
-working_directories-rest (working_directories.Shown text) = shown-rests text
-working_directories-rest _ = record { state = λ state. refl; few = λ state. omega arith; finished = λ before state text replies e. absurd (cc) }
+folders-rest : (c : FolderCommand) → Rests (folder_talk c)
+folders-rest (folders.Shown text) = shown-rests text
+folders-rest _ = record { state = λ state. refl; few = λ state. omega arith; finished = λ before state text replies e. absurd (cc) }
 
 mounts-rest : (c : MountCommand) → Rests (mount_talk c)
 mounts-rest (mounts.Shown text) = shown-rests text
@@ -69,7 +69,7 @@ mappings-rest _ = record { state = λ state. refl; few = λ state. omega arith; 
 
 families-rest : (c : Family) → Rests (family_talk c)
 families-rest (family.Shown text) = shown-rests text
-families-rest (family.Folders command) = working_directories-rest command
+families-rest (family.Folders command) = folders-rest command
 families-rest (family.Mounts command) = mounts-rest command
 families-rest (family.Texts command) = texts-rest command
 families-rest (family.Copies command) = copies-rest command

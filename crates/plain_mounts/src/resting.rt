@@ -100,11 +100,7 @@ fn has_unlinked_file(namespace: &Namespace, row: RowId) -> bool
 fn has_file(namespace: &Namespace, row: RowId) -> bool
     ensures { result ≡ is_some (life_at namespace.now row) }
 {
-    match namespace
-        .live_files
-        .as_slice()
-        .get(row.place())
-    {
+    match namespace.live_files.as_slice().get(row.place()) {
         Some(life) => life.is_some(),
         None => false,
     }
