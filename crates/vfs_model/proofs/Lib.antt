@@ -34,6 +34,7 @@ pub mod FolderTalks
 pub mod FreeNumbers
 pub mod FreePlaces
 pub mod GrowingRuns
+pub mod KnownFiles
 pub mod LeadCounts
 pub mod LineTalks
 pub mod LivingFiles
@@ -48,6 +49,7 @@ pub mod MovedLaws
 pub mod NodeLaws
 pub mod NormalPaths
 pub mod OpeningLaws
+pub mod OwnFiles
 pub mod PageSets
 pub mod RefusalExamples
 pub mod RefusedSteps

@@ -1,0 +1,201 @@
+-- The references that a session knows of: each keeps its file, and none is known in two places.
+use Rattle.std.proofs.Common.{◌≡◌, ◌≢◌, ◌⊎◌, inl, inr, ℕ, zero, suc, ◌+◌, ◌-◌, ◌==◌, ◌<◌, ◌≤◌, Bool, true, false, ◌&&◌, ◌||◌, nat_lt, Option, Some, None, is_some, option_map, List, [], ◌∷◌, length, slice_index_or, slice_set, if◌then◌else◌, refl, sym, ap, subst, ◌∙◌, arith}
+use Rattle.std.proofs.lemmas.Bool.Decides.{eqb_tells, nat_tests}
+use Rattle.std.proofs.lemmas.List.{get_or-set_same, get_or-set_other}
+use Rattle.std.specs.List.{list_any}
+use Rattle.vfs_base.specs.declared.ids.FileId.{FileId}
+use Rattle.vfs_base.specs.declared.ids.HoldId.{HoldId}
+use Rattle.vfs_model.proofs.FreePlaces.{get-in}
+use Rattle.vfs_model.specs.HeldFiles.{IsNew, file_held, keeps_file, with_held}
+use Rattle.vfs_model.specs.OpenFiles.{file_numbered}
+use Rattle.vfs_model.specs.declared.shell_state.OpenFile.{OpenFile}
+use Rattle.vfs_model.specs.declared.shell_state.ShellState.{ShellState}
+use Rattle.vfs_model.specs.declared.shell_state.Window.{Window}
+
+-- a reference, and the file that it keeps
+pub record Keeper : Type 0 where
+  pub hold : HoldId
+  pub file : FileId
+
+-- where a session knows a reference from: an open file, a mapping, or one of two that a command has
+pub data Place : Type 0 where
+  OfFile : ℕ → Place
+  OfMapping : ℕ → Place
+  OfFirst : Place
+  OfSecond : Place
+
+abbrev pub keeps_open : OpenFile → Keeper
+keeps_open file = record { hold = file.hold; file = file.file }
+
+abbrev pub keeps_window : Window → Keeper
+keeps_window window = record { hold = window.hold; file = window.file }
+
+-- what is known at each place
+abbrev pub known_at : ShellState → Option Keeper → Option Keeper → Place → Option Keeper
+known_at state first second (OfFile number) = option_map keeps_open (file_numbered state.open_files number)
+known_at state first second (OfMapping place) = option_map keeps_window (slice_index_or state.mappings place None)
+known_at state first second OfFirst = first
+known_at state first second OfSecond = second
+
+-- each known reference keeps its file, and has one place
+pub record AreKept (k : ℕ) (held : List (Option FileId)) (known : Place → Option Keeper) : Type 0 where
+  pub place_of : ℕ → Place
+  pub kept : (place : Place) (one : Keeper) → known place ≡ Some one → file_held held k one.hold ≡ Some one.file
+  pub placed : (place : Place) (one : Keeper) → known place ≡ Some one → place_of one.hold.number ≡ place
+
+-- what a session knows, and the command at hand
+abbrev pub Knows : ℕ → List (Option FileId) → ShellState → Option Keeper → Option Keeper → Type 0
+Knows k held state first second = AreKept k held (known_at state first second)
+
+pub fewer-kept : (k : ℕ) (held : List (Option FileId)) (known fewer : Place → Option Keeper) → AreKept k held known →
+    ((place : Place) (one : Keeper) → fewer place ≡ Some one → known place ≡ Some one) → AreKept k held fewer
+fewer-kept k held known fewer kept less = record {
+  place_of = kept.place_of;
+  kept = λ place one e. kept.kept place one (less place one e);
+  placed = λ place one e. kept.placed place one (less place one e);
+}
+
+-- a number at a place of its own, and the others as before
+abbrev with_place_of : ℕ → Place → (ℕ → Place) → ℕ → Place
+with_place_of number place place_of other = if other == number then place else place_of other
+
+place-here : (number : ℕ) (place : Place) (place_of : ℕ → Place) → with_place_of number place place_of number ≡ place
+place-here number place place_of = elim (eqb_tells number number) [
+  | inl h ↦ ap (λ b. if b then place else place_of number) h.0
+  | inr h ↦ absurd (h.1 refl)
+]
+
+place-there : (number other : ℕ) (place : Place) (place_of : ℕ → Place) → other ≢ number →
+    with_place_of number place place_of other ≡ place_of other
+place-there number other place place_of ne = elim (eqb_tells other number) [
+  | inl h ↦ absurd (ne h.1)
+  | inr h ↦ ap (λ b. if b then place else place_of other) h.0
+]
+
+-- a reference is known at another place now
+pub moved-kept : (k : ℕ) (held : List (Option FileId)) (known after : Place → Option Keeper) (from to : Place) (moved : Keeper) →
+    AreKept k held known → known from ≡ Some moved →
+    ((place : Place) (one : Keeper) → after place ≡ Some one →
+        ((place ≡ to) × (one ≡ moved)) ⊎ ((place ≢ from) × (known place ≡ Some one))) →
+    AreKept k held after
+moved-kept k held known after from to moved kept = λ at change. record {
+  place_of = with_place_of moved.hold.number to kept.place_of;
+  kept = λ place one e. elim (change place one e) [
+    | inl h ↦ subst (λ x. file_held held k x.hold ≡ Some x.file) (sym h.1) (kept.kept from moved at)
+    | inr h ↦ kept.kept place one h.1
+  ];
+  placed = λ place one e. elim (change place one e) [
+    | inl h ↦ ap (λ x. with_place_of moved.hold.number to kept.place_of x.hold.number) h.1
+        ∙ place-here moved.hold.number to kept.place_of ∙ sym h.0
+    | inr h ↦
+        let there = kept.placed from moved at in
+        let here = kept.placed place one h.1 in
+        let other : one.hold.number ≢ moved.hold.number = λ same. h.0 (sym here ∙ ap kept.place_of same ∙ there) in
+        place-there moved.hold.number one.hold.number to kept.place_of other ∙ here
+  ];
+}
+
+held-by : (held : List (Option FileId)) (k : ℕ) (hold : HoldId) (file : FileId) (own above : Bool) →
+    (if own && above then slice_index_or held (hold.number - 1) None else None) ≡ Some file →
+    (own ≡ true) × (above ≡ true) × (slice_index_or held (hold.number - 1) None ≡ Some file)
+held-by held k hold file true true e = (refl, refl, e)
+held-by held k hold file true false e = absurd (cc)
+held-by held k hold file false above e = absurd (cc)
+
+-- a reference that keeps a file: whose it is, and where it stands
+pub is-held : (held : List (Option FileId)) (k : ℕ) (hold : HoldId) (file : FileId) → file_held held k hold ≡ Some file →
+    ((hold.session == k) ≡ true) × (nat_lt 0 hold.number ≡ true) × (slice_index_or held (hold.number - 1) None ≡ Some file)
+is-held held k hold file e = held-by held k hold file (hold.session == k) (nat_lt 0 hold.number) e
+
+pub held-from : (held : List (Option FileId)) (k : ℕ) (hold : HoldId) (file : Option FileId) → (hold.session == k) ≡ true →
+    nat_lt 0 hold.number ≡ true → slice_index_or held (hold.number - 1) None ≡ file → file_held held k hold ≡ file
+held-from held k hold file own above e =
+    ap (λ b. if b && nat_lt 0 hold.number then slice_index_or held (hold.number - 1) None else None) own
+    ∙ ap (λ b. if b then slice_index_or held (hold.number - 1) None else None) above ∙ e
+
+-- a write at another reference leaves what this one keeps
+other-held : (held : List (Option FileId)) (k : ℕ) (hold other : HoldId) (file : FileId) (written : Option FileId) →
+    nat_lt 0 hold.number ≡ true → other.number ≢ hold.number → file_held held k other ≡ Some file →
+    file_held (with_held hold written held) k other ≡ Some file
+other-held held k hold other file written above ne e =
+    let is = is-held held k other file e in
+    let apart : other.number - 1 ≢ hold.number - 1 =
+    λ same. ne (let a : 0 < hold.number = grind (arith, nat_tests, above) in let b : 0 < other.number = grind (arith, nat_tests, is.1) in omega (arith, a, b, same)) in
+    held-from (with_held hold written held) k other (Some file) is.0 is.1
+    (get_or-set_other held (hold.number - 1) (other.number - 1) written None apart ∙ is.2)
+
+above-zero : (number : ℕ) → 0 < number → nat_lt 0 number ≡ true
+above-zero number l = grind (arith, nat_tests, l)
+
+-- a new reference keeps its file from now on
+pub added-kept : (k : ℕ) (held : List (Option FileId)) (known after : Place → Option Keeper) (to : Place) (new : Keeper) →
+    AreKept k held known → IsNew k held new.hold →
+    ((place : Place) (one : Keeper) → after place ≡ Some one → ((place ≡ to) × (one ≡ new)) ⊎ (known place ≡ Some one)) →
+    AreKept k (with_held new.hold (Some new.file) held) after
+added-kept k held known after to new kept = λ fresh change.
+    let above = above-zero new.hold.number fresh.above in
+    let session : (new.hold.session == k) ≡ true = elim (eqb_tells new.hold.session k) [ inl h ↦ h.0 | inr h ↦ absurd (h.1 fresh.session) ] in
+    let here : file_held (with_held new.hold (Some new.file) held) k new.hold ≡ Some new.file =
+    held-from (with_held new.hold (Some new.file) held) k new.hold (Some new.file) session above
+    (get_or-set_same held (new.hold.number - 1) (Some new.file) None (let a = fresh.above in let b = fresh.below in omega (arith, a, b))) in
+    let apart : (place : Place) (one : Keeper) → known place ≡ Some one → one.hold.number ≢ new.hold.number =
+    λ place one e same.
+        let stands = (is-held held k one.hold one.file (kept.kept place one e)).2 in
+        let free : slice_index_or held (one.hold.number - 1) None ≡ None = ap (λ n. slice_index_or held (n - 1) None) same ∙ fresh.free in
+        absurd (cc) in
+    record {
+      place_of = with_place_of new.hold.number to kept.place_of;
+      kept = λ place one e. elim (change place one e) [
+        | inl h ↦ subst (λ x. file_held (with_held new.hold (Some new.file) held) k x.hold ≡ Some x.file) (sym h.1) here
+        | inr h ↦ other-held held k new.hold one.hold one.file (Some new.file) above (apart place one h) (kept.kept place one h)
+      ];
+      placed = λ place one e. elim (change place one e) [
+        | inl h ↦ ap (λ x. with_place_of new.hold.number to kept.place_of x.hold.number) h.1
+            ∙ place-here new.hold.number to kept.place_of ∙ sym h.0
+        | inr h ↦ place-there new.hold.number one.hold.number to kept.place_of (apart place one h) ∙ kept.placed place one h
+      ];
+    }
+
+-- a reference that is given up is known nowhere any more
+pub dropped-kept : (k : ℕ) (held : List (Option FileId)) (known after : Place → Option Keeper) (from : Place) (gone : Keeper) →
+    AreKept k held known → known from ≡ Some gone →
+    ((place : Place) (one : Keeper) → after place ≡ Some one → (place ≢ from) × (known place ≡ Some one)) →
+    AreKept k (with_held gone.hold None held) after
+dropped-kept k held known after from gone kept = λ at change.
+    let above = (is-held held k gone.hold gone.file (kept.kept from gone at)).1 in
+    let there = kept.placed from gone at in
+    record {
+      place_of = kept.place_of;
+      kept = λ place one e.
+          let h = change place one e in
+          let other : one.hold.number ≢ gone.hold.number =
+          λ same. h.0 (sym (kept.placed place one h.1) ∙ ap kept.place_of same ∙ there) in
+          other-held held k gone.hold one.hold one.file None above other (kept.kept place one h.1);
+      placed = λ place one e. kept.placed place one (change place one e).1;
+    }
+
+-- a file that a reference keeps is one of those that are kept
+keeps-itself : (id : FileId) → keeps_file id (Some id) ≡ true
+keeps-itself id =
+    let row : (id.row == id.row) ≡ true = elim (eqb_tells id.row id.row) [ inl h ↦ h.0 | inr h ↦ absurd (h.1 refl) ] in
+    let generation : (id.generation == id.generation) ≡ true =
+    elim (eqb_tells id.generation id.generation) [ inl h ↦ h.0 | inr h ↦ absurd (h.1 refl) ] in
+    ap (λ b. b && id.generation == id.generation) row ∙ generation
+
+or-first : (a b : Bool) → a ≡ true → (a || b) ≡ true
+or-first true b h = refl
+or-first false b h = absurd (cc)
+
+or-second : (a b : Bool) → b ≡ true → (a || b) ≡ true
+or-second true b h = refl
+or-second false b h = h
+
+one-keeps : (held : List (Option FileId)) (place : ℕ) (id : FileId) → slice_index_or held place None ≡ Some id → list_any (keeps_file id) held ≡ true
+one-keeps [] place id e = absurd (cc)
+one-keeps (x ∷ held) zero id e = or-first (keeps_file id x) (list_any (keeps_file id) held) (ap (keeps_file id) e ∙ keeps-itself id)
+one-keeps (x ∷ held) (suc place) id e = or-second (keeps_file id x) (list_any (keeps_file id) held) (one-keeps held place id e)
+
+pub known-kept : (k : ℕ) (held : List (Option FileId)) (known : Place → Option Keeper) (place : Place) (one : Keeper) → AreKept k held known →
+    known place ≡ Some one → list_any (keeps_file one.file) held ≡ true
+known-kept k held known place one kept e =
+    one-keeps held (one.hold.number - 1) one.file (is-held held k one.hold one.file (kept.kept place one e)).2
