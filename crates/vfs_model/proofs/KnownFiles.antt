@@ -199,3 +199,14 @@ pub known-kept : (k : ℕ) (held : List (Option FileId)) (known : Place → Opti
     known place ≡ Some one → list_any (keeps_file one.file) held ≡ true
 known-kept k held known place one kept e =
     one-keeps held (one.hold.number - 1) one.file (is-held held k one.hold one.file (kept.kept place one e)).2
+
+-- what a command had is forgotten
+pub forgets : (first second : Option Keeper) (state : ShellState) (k : ℕ) (held : List (Option FileId)) → Knows k held state first second →
+    Knows k held state None None
+forgets first second state k held knows = fewer-kept k held (known_at state first second) (known_at state None None) knows still
+  where
+    still : (place : Place) (one : Keeper) → known_at state None None place ≡ Some one → known_at state first second place ≡ Some one
+    still (OfFile number) one e = e
+    still (OfMapping place) one e = e
+    still OfFirst one e = absurd (cc)
+    still OfSecond one e = absurd (cc)

@@ -50,6 +50,8 @@ pub mod NodeLaws
 pub mod NormalPaths
 pub mod OpeningLaws
 pub mod OwnFiles
+pub mod OwnFolderTalks
+pub mod OwnMountTalks
 pub mod PageSets
 pub mod RefusalExamples
 pub mod RefusedSteps

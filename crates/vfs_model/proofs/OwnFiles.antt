@@ -5,7 +5,7 @@ use Rattle.vfs_base.specs.declared.errno.Errno.{Errno}
 use Rattle.vfs_base.specs.declared.ids.FileId.{FileId}
 use Rattle.vfs_base.specs.declared.reply.Reply.{Reply}
 use Rattle.vfs_base.specs.declared.step.Step.{Step}
-use Rattle.vfs_model.proofs.KnownFiles.{Keeper, Knows}
+use Rattle.vfs_model.proofs.KnownFiles.{Keeper, Knows, forgets}
 use Rattle.vfs_model.specs.CommandWords.{four_words, meaning, no_word, one_word, three_words, two_words}
 use Rattle.vfs_model.specs.FileStep.{step_file}
 use Rattle.vfs_model.specs.HeldFiles.{AsksItsOwn, CanReply, held_after, may_ask_held}
@@ -39,3 +39,151 @@ block-asks : (k : ℕ) (block : List ℕ) (replies : List Reply) (held : List (O
 block-asks k block [] held run asks = λ asked e. asks asked e
 block-asks k block (answer ∷ later) held run asks =
     λ asked e can. block-asks k block later (held_after k held asked answer) (λ more. run (answer ∷ more)) (asks asked e can)
+
+module _ (k : ℕ) (b : Behind k) where
+  pub showing-own : (text : List ℕ) (state : ShellState) (held : List (Option FileId)) → Knows k held state None None →
+      AsksOwn k b held (λ more. shows text state more)
+  showing-own text state held knows = record {
+    each = λ replies. block-asks k _ replies held (λ more. b.later state more) (b.asks state held knows replies);
+  }
+
+  -- the command is finished, and what it had is given up or forgotten
+  pub showing : (first second : Option Keeper) (text : List ℕ) → TalkAsks k b first second (shows text)
+  showing first second text = record { from = λ state held knows. showing-own text state held (forgets first second state k held knows) }
+
+  asking-each : (own : List Step) (step : Step) (go : Reply → Talk) (state : ShellState) (held : List (Option FileId)) →
+      may_ask_held held step (step_file step) ≡ true →
+      ((reply : Reply) → CanReply k held step reply → AsksOwn k b (held_after k held step reply) (λ more. go reply state more)) →
+      (replies : List Reply) → AsksItsOwn k replies held (λ more. run_of b (λ more. ask_holding own step go state more) more)
+  asking-each own step go state held may next [] = λ asked e. let same : step ≡ asked = cc in subst (λ s. may_ask_held held s (step_file s) ≡ true) same may
+  asking-each own step go state held may next (reply ∷ replies) = λ asked e.
+      let same : step ≡ asked = cc in
+      subst (λ s. CanReply k held s reply → AsksItsOwn k replies (held_after k held s reply) (λ more. run_of b (λ more. go reply state more) more))
+      same (λ can. (next reply can).each replies)
+
+  pub asking-own : (own : List Step) (step : Step) (go : Reply → Talk) (state : ShellState) (held : List (Option FileId)) →
+      may_ask_held held step (step_file step) ≡ true →
+      ((reply : Reply) → CanReply k held step reply → AsksOwn k b (held_after k held step reply) (λ more. go reply state more)) →
+      AsksOwn k b held (λ more. ask_holding own step go state more)
+  asking-own own step go state held may next = record { each = asking-each own step go state held may next }
+
+  -- a step that neither gives nor takes a reference, and that may be asked
+  pub record IsPlain (held : List (Option FileId)) (step : Step) : Type 0 where
+    pub may : may_ask_held held step (step_file step) ≡ true
+    pub same : (reply : Reply) → held_after k held step reply ≡ held
+
+  pub asking-plain : (own : List Step) (step : Step) (go : Reply → Talk) (state : ShellState) (held : List (Option FileId)) → IsPlain held step →
+      ((reply : Reply) → AsksOwn k b held (λ more. go reply state more)) → AsksOwn k b held (λ more. ask_holding own step go state more)
+  asking-plain own step go state held plain next =
+      asking-own own step go state held plain.may
+      (λ reply can. subst (λ h. AsksOwn k b h (λ more. go reply state more)) (sym (plain.same reply)) (next reply))
+
+  -- a step that any session may ask, and that neither gives nor takes a reference
+  pub asking : (first second : Option Keeper) (own : List Step) (step : Step) (go : Reply → Talk) →
+      ((held : List (Option FileId)) → IsPlain held step) →
+      ((reply : Reply) → TalkAsks k b first second (go reply)) → TalkAsks k b first second (ask_holding own step go)
+  asking first second own step go plain each = record {
+    from = λ state held knows. asking-plain own step go state held (plain held) (λ reply. (each reply).from state held knows);
+  }
+
+  pub changing-asks : (first second : Option Keeper) (change : ShellState → ShellState) (go : Talk) →
+      ((state : ShellState) (held : List (Option FileId)) → Knows k held state first second → Knows k held (change state) first second) →
+      TalkAsks k b first second go → TalkAsks k b first second (changing change go)
+  changing-asks first second change go keeps asks = record { from = λ state held knows. asks.from (change state) held (keeps state held knows) }
+
+  pub checked-own : {X : Type 0} (refused : Errno → Talk) (found : Result X Errno) (go : X → Talk) (state : ShellState) (held : List (Option FileId)) →
+      ((errno : Errno) → AsksOwn k b held (λ more. refused errno state more)) →
+      ((x : X) → found ≡ Ok x → AsksOwn k b held (λ more. go x state more)) →
+      AsksOwn k b held (λ more. checked refused found go state more)
+  checked-own refused (Ok x) go state held fails each = each x refl
+  checked-own refused (Err errno) go state held fails each = fails errno
+
+  pub if-asks : (first second : Option Keeper) (test : Bool) (one other : Talk) → TalkAsks k b first second one → TalkAsks k b first second other →
+      TalkAsks k b first second (if test then one else other)
+  if-asks first second true one other p q = p
+  if-asks first second false one other p q = q
+
+  abbrev pub RoundAsks : {S : Type 0} → List (Option FileId) → ShellState → Round S → Type 0
+  RoundAsks held state (Again stage) = Unit {0}
+  RoundAsks held state (After go) = AsksOwn k b held (λ more. go state more)
+
+  pub if-round : {S : Type 0} (held : List (Option FileId)) (state : ShellState) (test : Bool) (one other : Round S) →
+      RoundAsks held state one → RoundAsks held state other → RoundAsks held state (if test then one else other)
+  if-round held state true one other p q = p
+  if-round held state false one other p q = q
+
+  round-asks : {S : Type 0} (again : S → List Reply → Answer) (found : Round S) (state : ShellState) (held : List (Option FileId)) (replies : List Reply) →
+      RoundAsks held state found → ((stage : S) → AsksItsOwn k replies held (λ more. run_of b (λ more. again stage more) more)) →
+      AsksItsOwn k replies held (λ more. run_of b (λ more. round_talk (λ later now behind. again later more) found state more) more)
+  round-asks again (Again stage) state held replies asks each = each stage
+  round-asks again (After go) state held replies asks each = asks.each replies
+
+  turning-each : {S : Type 0} (own : List Step) (step : S → Step) (round : S → Reply → Round S) (state : ShellState) (held : List (Option FileId)) →
+      ((stage : S) → IsPlain held (step stage)) → ((stage : S) (reply : Reply) → RoundAsks held state (round stage reply)) →
+      (replies : List Reply) (stage : S) → AsksItsOwn k replies held (λ more. run_of b (λ more. ask_in_turn own step round stage state more) more)
+  turning-each own step round state held plain each [] stage =
+      λ asked e. let same : step stage ≡ asked = cc in subst (λ s. may_ask_held held s (step_file s) ≡ true) same (plain stage).may
+  turning-each own step round state held plain each (reply ∷ replies) stage = λ asked e.
+      let same : step stage ≡ asked = cc in
+      let next = round-asks (λ later behind. ask_in_turn own step round later state behind) (round stage reply) state held replies (each stage reply)
+      (λ later. turning-each own step round state held plain each replies later) in
+      let now : AsksItsOwn k replies (held_after k held (step stage) reply) (λ more. run_of b (λ more. ask_in_turn own step round stage state (reply ∷ more)) more) =
+      subst (λ h. AsksItsOwn k replies h (λ more. run_of b (λ more. ask_in_turn own step round stage state (reply ∷ more)) more)) (sym ((plain stage).same reply)) next in
+      subst (λ s. CanReply k held s reply → AsksItsOwn k replies (held_after k held s reply) (λ more. run_of b (λ more. ask_in_turn own step round stage state (reply ∷ more)) more))
+      same (λ can. now)
+
+  pub turning : {S : Type 0} (own : List Step) (step : S → Step) (round : S → Reply → Round S) (state : ShellState) (held : List (Option FileId)) →
+      ((stage : S) → IsPlain held (step stage)) → ((stage : S) (reply : Reply) → RoundAsks held state (round stage reply)) →
+      (stage : S) → AsksOwn k b held (λ more. ask_in_turn own step round stage state more)
+  turning own step round state held plain each stage = record { each = λ replies. turning-each own step round state held plain each replies stage }
+
+  -- a talk of a line's words, which has no reference at its start
+  abbrev pub WordsAsk : Talk → Type 0
+  WordsAsk talk = TalkAsks k b None None talk
+
+  pub meaning-asks : {X : Type 0} (form : List ℕ) (found : Option X) (go : X → Talk) → ((x : X) → WordsAsk (go x)) → WordsAsk (meaning form found go)
+  meaning-asks form (Some x) go each = each x
+  meaning-asks form None go each = showing _ _ _
+
+  pub none-asks : (form : List ℕ) (go : Talk) → WordsAsk go → (words : List (List ℕ)) → WordsAsk (no_word form go words)
+  none-asks form go asks [] = asks
+  none-asks form go asks (a ∷ words) = showing _ _ _
+
+  pub one-asks : (form : List ℕ) (go : List ℕ → Talk) → ((a : List ℕ) → WordsAsk (go a)) → (words : List (List ℕ)) → WordsAsk (one_word form go words)
+  one-asks form go each [] = showing _ _ _
+  one-asks form go each (a ∷ []) = each a
+  one-asks form go each (a ∷ b ∷ words) = showing _ _ _
+
+  pub two-ask : (form : List ℕ) (go : List ℕ → List ℕ → Talk) → ((a b : List ℕ) → WordsAsk (go a b)) →
+      (words : List (List ℕ)) → WordsAsk (two_words form go words)
+  two-ask form go each [] = showing _ _ _
+  two-ask form go each (a ∷ []) = showing _ _ _
+  two-ask form go each (a ∷ b ∷ []) = each a b
+  two-ask form go each (a ∷ b ∷ c ∷ words) = showing _ _ _
+
+  pub three-ask : (form : List ℕ) (go : List ℕ → List ℕ → List ℕ → Talk) → ((a b c : List ℕ) → WordsAsk (go a b c)) →
+      (words : List (List ℕ)) → WordsAsk (three_words form go words)
+  three-ask form go each [] = showing _ _ _
+  three-ask form go each (a ∷ []) = showing _ _ _
+  three-ask form go each (a ∷ b ∷ []) = showing _ _ _
+  three-ask form go each (a ∷ b ∷ c ∷ []) = each a b c
+  three-ask form go each (a ∷ b ∷ c ∷ d ∷ words) = showing _ _ _
+
+  pub four-ask : (form : List ℕ) (go : List ℕ → List ℕ → List ℕ → List ℕ → Talk) → ((a b c d : List ℕ) → WordsAsk (go a b c d)) →
+      (words : List (List ℕ)) → WordsAsk (four_words form go words)
+  four-ask form go each [] = showing _ _ _
+  four-ask form go each (a ∷ []) = showing _ _ _
+  four-ask form go each (a ∷ b ∷ []) = showing _ _ _
+  four-ask form go each (a ∷ b ∷ c ∷ []) = showing _ _ _
+  four-ask form go each (a ∷ b ∷ c ∷ d ∷ []) = each a b c d
+  four-ask form go each (a ∷ b ∷ c ∷ d ∷ e ∷ words) = showing _ _ _
+
+  abbrev pub OptionAsks : Option Talk → Type 0
+  OptionAsks None = Unit {0}
+  OptionAsks (Some talk) = WordsAsk talk
+
+  -- one command more of a family
+  pub known : (test : Bool) (talk : Talk) (other : Option Talk) → WordsAsk talk → OptionAsks other →
+      OptionAsks (if test then Some talk else other)
+  known true talk other asks rest = asks
+  known false talk other asks rest = rest
