@@ -210,3 +210,64 @@ forgets first second state k held knows = fewer-kept k held (known_at state firs
     still (OfMapping place) one e = e
     still OfFirst one e = absurd (cc)
     still OfSecond one e = absurd (cc)
+
+-- the second reference of a command is forgotten
+pub forgets-second : (first second : Option Keeper) (state : ShellState) (k : ℕ) (held : List (Option FileId)) → Knows k held state first second →
+    Knows k held state first None
+forgets-second first second state k held knows = fewer-kept k held (known_at state first second) (known_at state first None) knows still
+  where
+    still : (place : Place) (one : Keeper) → known_at state first None place ≡ Some one → known_at state first second place ≡ Some one
+    still (OfFile number) one e = e
+    still (OfMapping place) one e = e
+    still OfFirst one e = e
+    still OfSecond one e = absurd (cc)
+
+-- a command has a new reference
+pub first-opened : (state : ShellState) (k : ℕ) (held : List (Option FileId)) (new : Keeper) → Knows k held state None None →
+    IsNew k held new.hold → Knows k (with_held new.hold (Some new.file) held) state (Some new) None
+first-opened state k held new knows fresh =
+    added-kept k held (known_at state None None) (known_at state (Some new) None) OfFirst new knows fresh still
+  where
+    still : (place : Place) (one : Keeper) → known_at state (Some new) None place ≡ Some one →
+        ((place ≡ OfFirst) × (one ≡ new)) ⊎ (known_at state None None place ≡ Some one)
+    still (OfFile number) one e = inr e
+    still (OfMapping place) one e = inr e
+    still OfFirst one e = inl (refl, cc)
+    still OfSecond one e = absurd (cc)
+
+pub second-opened : (first : Option Keeper) (state : ShellState) (k : ℕ) (held : List (Option FileId)) (new : Keeper) → Knows k held state first None →
+    IsNew k held new.hold → Knows k (with_held new.hold (Some new.file) held) state first (Some new)
+second-opened first state k held new knows fresh =
+    added-kept k held (known_at state first None) (known_at state first (Some new)) OfSecond new knows fresh still
+  where
+    still : (place : Place) (one : Keeper) → known_at state first (Some new) place ≡ Some one →
+        ((place ≡ OfSecond) × (one ≡ new)) ⊎ (known_at state first None place ≡ Some one)
+    still (OfFile number) one e = inr e
+    still (OfMapping place) one e = inr e
+    still OfFirst one e = inr e
+    still OfSecond one e = inl (refl, cc)
+
+-- a reference of a command is given up
+pub first-closed : (second : Option Keeper) (state : ShellState) (k : ℕ) (held : List (Option FileId)) (gone : Keeper) →
+    Knows k held state (Some gone) second → Knows k (with_held gone.hold None held) state None second
+first-closed second state k held gone knows =
+    dropped-kept k held (known_at state (Some gone) second) (known_at state None second) OfFirst gone knows refl still
+  where
+    still : (place : Place) (one : Keeper) → known_at state None second place ≡ Some one →
+        (place ≢ OfFirst) × (known_at state (Some gone) second place ≡ Some one)
+    still (OfFile number) one e = (λ same. cc, e)
+    still (OfMapping place) one e = (λ same. cc, e)
+    still OfFirst one e = absurd (cc)
+    still OfSecond one e = (λ same. cc, e)
+
+pub second-closed : (first : Option Keeper) (state : ShellState) (k : ℕ) (held : List (Option FileId)) (gone : Keeper) →
+    Knows k held state first (Some gone) → Knows k (with_held gone.hold None held) state first None
+second-closed first state k held gone knows =
+    dropped-kept k held (known_at state first (Some gone)) (known_at state first None) OfSecond gone knows refl still
+  where
+    still : (place : Place) (one : Keeper) → known_at state first None place ≡ Some one →
+        (place ≢ OfSecond) × (known_at state first (Some gone) place ≡ Some one)
+    still (OfFile number) one e = (λ same. cc, e)
+    still (OfMapping place) one e = (λ same. cc, e)
+    still OfFirst one e = (λ same. cc, e)
+    still OfSecond one e = absurd (cc)

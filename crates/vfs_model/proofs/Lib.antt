@@ -49,6 +49,7 @@ pub mod MovedLaws
 pub mod NodeLaws
 pub mod NormalPaths
 pub mod OpeningLaws
+pub mod OwnCopyTalks
 pub mod OwnFiles
 pub mod OwnFolderTalks
 pub mod OwnMountTalks
