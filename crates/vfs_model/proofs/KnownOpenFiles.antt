@@ -1,0 +1,147 @@
+-- A session knows its references where they were as its open files change, or where they are now.
+use Rattle.std.proofs.Common.{◌≡◌, ◌≢◌, ◌⊎◌, inl, inr, ℕ, zero, suc, ◌-◌, Bool, true, false, is_none, nat_lt, Option, Some, None, option_map, Result, Ok, Err, List, [], ◌∷◌, slice_index_or, slice_set, if◌then◌else◌, refl, sym, ap, subst, ◌∙◌}
+use Rattle.std.specs.Option.{option_and_then}
+use Rattle.std.specs.List.{list_any}
+use Rattle.std.specs.Prelude.{ℤ}
+use Rattle.vfs_base.specs.declared.errno.Errno.{Errno}
+use Rattle.vfs_base.specs.declared.errno.Errno.TheVariants as errno
+use Rattle.vfs_base.specs.declared.ids.FileId.{FileId}
+use Rattle.vfs_base.specs.declared.limits.TheConstants.{FIRST_DESCRIPTOR}
+use Rattle.vfs_model.proofs.KnownFiles.{AreKept, Keeper, Knows, OfFile, OfFirst, OfMapping, OfSecond, Place, fewer-kept, keeps_open, known-kept, known_at, moved-kept}
+use Rattle.vfs_model.specs.Chain.{◌>>=◌, ◌>>◌, refuse◌when◌, wanted}
+use Rattle.vfs_model.specs.FileCommands.{changed_or_same}
+use Rattle.vfs_model.specs.HeldFiles.{file_held, keeps_file}
+use Rattle.vfs_model.specs.OpenCommands.{with_open_files}
+use Rattle.vfs_model.specs.OpenFiles.{Closed, NewDescriptor, Sought, add_file, at_place, close_file, dup_file, file_number, file_numbered, has_all_descriptors, is_last, least_free_file, new_descriptor, open_file, placed, seek, set_place, sought_offset, whence_offset, with_descriptor, with_file}
+use Rattle.vfs_model.specs.declared.shell_state.OpenFile.{OpenFile}
+use Rattle.vfs_model.specs.declared.shell_state.OpenFiles.{OpenFiles}
+use Rattle.vfs_model.specs.declared.shell_state.ShellState.{ShellState}
+use Rattle.vfs_model.specs.declared.shell_state.Whence.{Whence}
+
+-- what stands in a table after a write: what was written, or at another place what stood there
+pub set-cases : {X : Type 0} (xs : List (Option X)) (place other : ℕ) (x : Option X) (y : X) → slice_index_or (slice_set xs place x) other None ≡ Some y →
+    ((other ≡ place) × (x ≡ Some y)) ⊎ ((other ≢ place) × (slice_index_or xs other None ≡ Some y))
+set-cases [] place other x y e = absurd (cc)
+set-cases (z ∷ xs) zero zero x y e = inl (refl, e)
+set-cases (z ∷ xs) zero (suc other) x y e = inr (λ same. cc, e)
+set-cases (z ∷ xs) (suc place) zero x y e = inr (λ same. cc, e)
+set-cases (z ∷ xs) (suc place) (suc other) x y e = elim (set-cases xs place other x y e) [
+  | inl h ↦ inl (ap suc h.0, h.1)
+  | inr h ↦ inr (λ same. h.0 (cc), h.1)
+]
+
+-- what a table of open files or mappings tells at a place
+pub map-some : {X Y : Type 0} (f : X → Y) (found : Option X) (y : Y) → option_map f found ≡ Some y → (x : X) × (found ≡ Some x) × (y ≡ f x)
+map-some f None y e = absurd (cc)
+map-some f (Some x) y e = (x, refl, cc)
+
+-- the open file of a descriptor has a number
+pub opened-number : (f : OpenFiles) (fd : ℕ) (file : OpenFile) → open_file f fd ≡ Ok file → (number : ℕ) × (file_numbered f number ≡ Some file)
+opened-number f fd file e = by-number (file_number f fd) e
+  where
+    wanted-some : (found : Option OpenFile) → wanted errno.EBADF found ≡ Ok file → found ≡ Some file
+    wanted-some None e = absurd (cc)
+    wanted-some (Some x) e = cc
+
+    by-number : (found : Option ℕ) → wanted errno.EBADF (option_and_then (file_numbered f) found) ≡ Ok file → (number : ℕ) × (file_numbered f number ≡ Some file)
+    by-number None e = absurd (cc)
+    by-number (Some number) e = (number, wanted-some (file_numbered f number) e)
+
+pub then-ok : {Y : Type 0} (passed : Result (Unit {0}) Errno) (rest : Result Y Errno) (y : Y) → (passed >> rest) ≡ Ok y → rest ≡ Ok y
+then-ok (Ok passed) rest y e = e
+then-ok (Err errno) rest y e = absurd (cc)
+
+-- checks that leave the open file that was found
+pub found-ok : (found : Result OpenFile Errno) (rest : OpenFile → Result OpenFile Errno) (file : OpenFile) →
+    ((x : OpenFile) → rest x ≡ Ok file → x ≡ file) → (found >>= rest) ≡ Ok file → found ≡ Ok file
+found-ok (Ok x) rest file same e = ap Ok (same x e)
+found-ok (Err errno) rest file same e = absurd (cc)
+
+-- an open file's reference keeps its file
+pub open-held : (k : ℕ) (held : List (Option FileId)) (state : ShellState) (first second : Option Keeper) (fd : ℕ) (file : OpenFile) →
+    Knows k held state first second → open_file state.open_files fd ≡ Ok file → file_held held k file.hold ≡ Some file.file
+open-held k held state first second fd file knows e =
+    let found = opened-number state.open_files fd file e in
+    knows.kept (OfFile found.0) (keeps_open file) (ap (option_map keeps_open) found.1)
+
+-- and so its steps may be asked
+pub open-kept : (k : ℕ) (held : List (Option FileId)) (state : ShellState) (first second : Option Keeper) (fd : ℕ) (file : OpenFile) →
+    Knows k held state first second → open_file state.open_files fd ≡ Ok file → list_any (keeps_file file.file) held ≡ true
+open-kept k held state first second fd file knows e =
+    let found = opened-number state.open_files fd file e in
+    known-kept k held (known_at state first second) (OfFile found.0) (keeps_open file) knows (ap (option_map keeps_open) found.1)
+
+-- each open file was open before with the same reference and file
+abbrev pub SameFiles : OpenFiles → OpenFiles → Type 0
+SameFiles before after = (number : ℕ) (one : Keeper) → option_map keeps_open (file_numbered after number) ≡ Some one →
+    option_map keeps_open (file_numbered before number) ≡ Some one
+
+pub same-files-kept : (k : ℕ) (held : List (Option FileId)) (state : ShellState) (first second : Option Keeper) (after : OpenFiles) →
+    SameFiles state.open_files after → Knows k held state first second → Knows k held (with_open_files after state) first second
+same-files-kept k held state first second after same knows =
+    fewer-kept k held (known_at state first second) (known_at (with_open_files after state) first second) knows still
+  where
+    still : (place : Place) (one : Keeper) → known_at (with_open_files after state) first second place ≡ Some one → known_at state first second place ≡ Some one
+    still (OfFile number) one e = same number one e
+    still (OfMapping place) one e = e
+    still OfFirst one e = e
+    still OfSecond one e = e
+
+ok-same : {X : Type 0} (a b : X) → (let found : Result X Errno = Ok a in found ≡ Ok b) → a ≡ b
+ok-same a b e = cc
+
+placed-same : (f : OpenFiles) (n place : ℕ) (file : OpenFile) → file_numbered f n ≡ Some file → SameFiles f (at_place f n place file)
+placed-same f n place file at number one e =
+    let found = map-some keeps_open (file_numbered (at_place f n place file) number) one e in
+    elim (set-cases f.files n number (Some (placed place file)) found.0 found.1) [
+      | inl h ↦
+          let is : placed place file ≡ found.0 = cc in
+          let here : file_numbered f number ≡ Some file = ap (file_numbered f) h.0 ∙ at in
+          ap (option_map keeps_open) here ∙ ap (λ x. Some (keeps_open x)) is ∙ ap Some (sym found.2)
+      | inr h ↦ ap (option_map keeps_open) h.1 ∙ ap Some (sym found.2)
+    ]
+
+place-by : (f : OpenFiles) (place n : ℕ) (moved : OpenFiles) (file : Option OpenFile) → file_numbered f n ≡ file →
+    (wanted errno.EBADF file >>= λ file. Ok (at_place f n place file)) ≡ Ok moved → SameFiles f moved
+place-by f place n moved None e r = absurd (cc)
+place-by f place n moved (Some file) e r = subst (SameFiles f) (ok-same (at_place f n place file) moved r) (placed-same f n place file e)
+
+place-of : (f : OpenFiles) (place : ℕ) (moved : OpenFiles) (found : Option ℕ) →
+    (wanted errno.EBADF found >>= λ number. wanted errno.EBADF (file_numbered f number) >>= λ file. Ok (at_place f number place file)) ≡ Ok moved →
+    SameFiles f moved
+place-of f place moved None r = absurd (cc)
+place-of f place moved (Some n) r = place-by f place n moved (file_numbered f n) refl r
+
+-- a place that changes leaves references and files
+pub place-same : (f : OpenFiles) (fd place : ℕ) (moved : OpenFiles) → set_place f fd place ≡ Ok moved → SameFiles f moved
+unfolding set_place
+place-same f fd place moved r = place-of f place moved (file_number f fd) r
+
+pub changed-same : (f : OpenFiles) (changed : Result OpenFiles Errno) → ((moved : OpenFiles) → changed ≡ Ok moved → SameFiles f moved) →
+    SameFiles f (changed_or_same f changed)
+changed-same f (Ok moved) same = same moved refl
+changed-same f (Err errno) same = λ number one e. e
+
+seek-by : (f : OpenFiles) (fd : ℕ) (sought : Sought) (place : ℕ) (moved : Result OpenFiles Errno) → ((after : OpenFiles) → moved ≡ Ok after → SameFiles f after) →
+    (moved >>= λ after. Ok (let s : Sought = record { place = place; open_files = after } in s)) ≡ Ok sought → SameFiles f sought.open_files
+seek-by f fd sought place (Err errno) same r = absurd (cc)
+seek-by f fd sought place (Ok after) same r =
+    let s : Sought = record { place = place; open_files = after } in
+    subst (λ t. SameFiles f t.open_files) (ok-same s sought r) (same after refl)
+
+seek-on : (f : OpenFiles) (fd : ℕ) (sought : Sought) (place : Result ℕ Errno) →
+    (place >>= λ place. set_place f fd place >>= λ after. Ok (let s : Sought = record { place = place; open_files = after } in s)) ≡ Ok sought →
+    SameFiles f sought.open_files
+seek-on f fd sought (Err errno) r = absurd (cc)
+seek-on f fd sought (Ok place) r = seek-by f fd sought place (set_place f fd place) (place-same f fd place) r
+
+seek-of : (f : OpenFiles) (fd : ℕ) (off : ℤ) (whence : Whence) (sought : Sought) (file : Result OpenFile Errno) →
+    (file >>= λ file. sought_offset (whence_offset file whence) off >>= λ place. set_place f fd place
+    >>= λ after. Ok (let s : Sought = record { place = place; open_files = after } in s)) ≡ Ok sought →
+    SameFiles f sought.open_files
+seek-of f fd off whence sought (Err errno) r = absurd (cc)
+seek-of f fd off whence sought (Ok file) r = seek-on f fd sought (sought_offset (whence_offset file whence) off) r
+
+pub seek-same : (f : OpenFiles) (fd : ℕ) (off : ℤ) (whence : Whence) (sought : Sought) → seek f fd off whence ≡ Ok sought → SameFiles f sought.open_files
+unfolding seek
+seek-same f fd off whence sought r = seek-of f fd off whence sought (open_file f fd) r
