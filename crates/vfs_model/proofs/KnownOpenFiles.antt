@@ -145,3 +145,119 @@ seek-of f fd off whence sought (Ok file) r = seek-on f fd sought (sought_offset 
 pub seek-same : (f : OpenFiles) (fd : ℕ) (off : ℤ) (whence : Whence) (sought : Sought) → seek f fd off whence ≡ Ok sought → SameFiles f sought.open_files
 unfolding seek
 seek-same f fd off whence sought r = seek-of f fd off whence sought (open_file f fd) r
+
+-- a new open file's reference was the command's
+added-open : (k : ℕ) (held : List (Option FileId)) (state : ShellState) (file : OpenFile) (n : ℕ) (after : OpenFiles) →
+    after.files ≡ slice_set state.open_files.files n (Some file) → Knows k held state (Some (keeps_open file)) None →
+    Knows k held (with_open_files after state) None None
+added-open k held state file n after files knows =
+    moved-kept k held (known_at state (Some (keeps_open file)) None) (known_at (with_open_files after state) None None) OfFirst (OfFile n)
+    (keeps_open file) knows refl change
+  where
+    change : (place : Place) (one : Keeper) → known_at (with_open_files after state) None None place ≡ Some one →
+        ((place ≡ OfFile n) × (one ≡ keeps_open file)) ⊎ ((place ≢ OfFirst) × (known_at state (Some (keeps_open file)) None place ≡ Some one))
+    change (OfFile number) one e =
+        let found = map-some keeps_open (file_numbered after number) one e in
+        let at : slice_index_or (slice_set state.open_files.files n (Some file)) number None ≡ Some found.0 =
+        ap (λ xs. slice_index_or xs number None) (sym files) ∙ found.1 in
+        elim (set-cases state.open_files.files n number (Some file) found.0 at) [
+          | inl h ↦ let is : file ≡ found.0 = cc in inl (ap OfFile h.0, found.2 ∙ ap keeps_open (sym is))
+          | inr h ↦ inr (λ same. cc, ap (option_map keeps_open) h.1 ∙ ap Some (sym found.2))
+        ]
+    change (OfMapping place) one e = inr (λ same. cc, e)
+    change OfFirst one e = absurd (cc)
+    change OfSecond one e = absurd (cc)
+
+add-of : (f : OpenFiles) (file : OpenFile) (new : NewDescriptor) (full : Bool) →
+    ((refuse errno.EMFILE when full) >> Ok (new_descriptor (with_file (least_free_file f) (Some file) f) (least_free_file f))) ≡ Ok new →
+    new.open_files.files ≡ slice_set f.files (least_free_file f) (Some file)
+add-of f file new true r = absurd (cc)
+add-of f file new false r =
+    ap (λ d. d.open_files.files) (sym (ok-same (new_descriptor (with_file (least_free_file f) (Some file) f) (least_free_file f)) new r))
+
+pub add-known : (k : ℕ) (held : List (Option FileId)) (state : ShellState) (file : OpenFile) (new : NewDescriptor) →
+    add_file state.open_files file ≡ Ok new → Knows k held state (Some (keeps_open file)) None → Knows k held (with_open_files new.open_files state) None None
+unfolding add_file
+add-known k held state file new r knows =
+    added-open k held state file (least_free_file state.open_files) new.open_files
+    (add-of state.open_files file new (has_all_descriptors state.open_files) r) knows
+
+dup-of : (f : OpenFiles) (new : NewDescriptor) (found : Option ℕ) (full : Bool) →
+    (wanted errno.EBADF found >>= λ number. (refuse errno.EMFILE when full) >> Ok (new_descriptor f number)) ≡ Ok new → new.open_files.files ≡ f.files
+dup-of f new None full r = absurd (cc)
+dup-of f new (Some n) true r = absurd (cc)
+dup-of f new (Some n) false r = ap (λ d. d.open_files.files) (sym (ok-same (new_descriptor f n) new r))
+
+files-same : (f after : OpenFiles) → after.files ≡ f.files → SameFiles f after
+files-same f after same = λ number one e. ap (λ xs. option_map keeps_open (slice_index_or xs number None)) (sym same) ∙ e
+
+pub dup-same : (f : OpenFiles) (fd : ℕ) (new : NewDescriptor) → dup_file f fd ≡ Ok new → SameFiles f new.open_files
+unfolding dup_file
+dup-same f fd new r = files-same f new.open_files (dup-of f new (file_number f fd) (has_all_descriptors f) r)
+
+-- how the open files come out of a close: the last descriptor's file is the command's now
+record ClosesOne (f : OpenFiles) (closed : Closed) : Type 0 where
+  number : ℕ
+  last : closed.last ≡ file_numbered f number
+  files : closed.open_files.files ≡ slice_set f.files number None
+
+close-of : (f : OpenFiles) (fd : ℕ) (closed : Closed) (found : Option ℕ) (last : Bool) →
+    (wanted errno.EBADF found >>= λ number. Ok (
+    if last
+    then record { last = file_numbered f number; open_files = with_file number None (with_descriptor fd None f) }
+    else record { last = None; open_files = with_descriptor fd None f })) ≡ Ok closed →
+    ClosesOne f closed ⊎ ((closed.last ≡ None) × (closed.open_files.files ≡ f.files))
+close-of f fd closed None last r = absurd (cc)
+close-of f fd closed (Some n) true r =
+    let found : Closed = record { last = file_numbered f n; open_files = with_file n None (with_descriptor fd None f) } in
+    let same : found ≡ closed = ok-same found closed r in
+    inl (record { number = n; last = ap (λ c. c.last) (sym same); files = ap (λ c. c.open_files.files) (sym same) })
+close-of f fd closed (Some n) false r =
+    let found : Closed = record { last = None; open_files = with_descriptor fd None f } in
+    let same : found ≡ closed = ok-same found closed r in
+    inr (ap (λ c. c.last) (sym same), ap (λ c. c.open_files.files) (sym same))
+
+-- no open file of that number is left
+gone-files : (f after : OpenFiles) (n number : ℕ) (one : Keeper) → after.files ≡ slice_set f.files n None →
+    option_map keeps_open (file_numbered after number) ≡ Some one → (number ≢ n) × (option_map keeps_open (file_numbered f number) ≡ Some one)
+gone-files f after n number one files e =
+    let found = map-some keeps_open (file_numbered after number) one e in
+    let at : slice_index_or (slice_set f.files n None) number None ≡ Some found.0 = ap (λ xs. slice_index_or xs number None) (sym files) ∙ found.1 in
+    elim (set-cases f.files n number None found.0 at) [
+      | inl h ↦ absurd (cc)
+      | inr h ↦ (h.0, ap (option_map keeps_open) h.1 ∙ ap Some (sym found.2))
+    ]
+
+closed-one : (k : ℕ) (held : List (Option FileId)) (state : ShellState) (closed : Closed) (one : ClosesOne state.open_files closed) (last : Option OpenFile) →
+    file_numbered state.open_files one.number ≡ last → Knows k held state None None →
+    Knows k held (with_open_files closed.open_files state) (option_map keeps_open last) None
+closed-one k held state closed one (Some file) at knows =
+    moved-kept k held (known_at state None None) (known_at (with_open_files closed.open_files state) (Some (keeps_open file)) None) (OfFile one.number) OfFirst
+    (keeps_open file) knows (ap (option_map keeps_open) at) change
+  where
+    change : (place : Place) (x : Keeper) → known_at (with_open_files closed.open_files state) (Some (keeps_open file)) None place ≡ Some x →
+        ((place ≡ OfFirst) × (x ≡ keeps_open file)) ⊎ ((place ≢ OfFile one.number) × (known_at state None None place ≡ Some x))
+    change (OfFile number) x e =
+        let h = gone-files state.open_files closed.open_files one.number number x one.files e in
+        inr (λ same. h.0 (cc), h.1)
+    change (OfMapping place) x e = inr (λ same. cc, e)
+    change OfFirst x e = inl (refl, cc)
+    change OfSecond x e = absurd (cc)
+closed-one k held state closed one None at knows =
+    same-files-kept k held state None None closed.open_files
+    (λ number x e. (gone-files state.open_files closed.open_files one.number number x one.files e).1) knows
+
+closed-by : (k : ℕ) (held : List (Option FileId)) (state : ShellState) (closed : Closed) →
+    ClosesOne state.open_files closed ⊎ ((closed.last ≡ None) × (closed.open_files.files ≡ state.open_files.files)) → Knows k held state None None →
+    Knows k held (with_open_files closed.open_files state) (option_map keeps_open closed.last) None
+closed-by k held state closed (inl one) knows = closed-one k held state closed one closed.last (sym one.last) knows
+closed-by k held state closed (inr h) knows =
+    subst (λ last. Knows k held (with_open_files closed.open_files state) (option_map keeps_open last) None) (sym h.0)
+    (same-files-kept k held state None None closed.open_files (files-same state.open_files closed.open_files h.1) knows)
+
+pub close-known : (k : ℕ) (held : List (Option FileId)) (state : ShellState) (fd : ℕ) (closed : Closed) →
+    close_file state.open_files fd ≡ Ok closed → Knows k held state None None →
+    Knows k held (with_open_files closed.open_files state) (option_map keeps_open closed.last) None
+unfolding close_file
+close-known k held state fd closed r knows =
+    closed-by k held state closed (close-of state.open_files fd closed (file_number state.open_files fd) (is_last state.open_files fd) r) knows

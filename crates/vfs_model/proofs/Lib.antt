@@ -35,6 +35,7 @@ pub mod FreeNumbers
 pub mod FreePlaces
 pub mod GrowingRuns
 pub mod KnownFiles
+pub mod KnownMappings
 pub mod KnownOpenFiles
 pub mod LeadCounts
 pub mod LineTalks
