@@ -52,8 +52,10 @@ pub mod NodeLaws
 pub mod NormalPaths
 pub mod OpeningLaws
 pub mod OwnCopyTalks
+pub mod OwnFileTalks
 pub mod OwnFiles
 pub mod OwnFolderTalks
+pub mod OwnMappingTalks
 pub mod OwnMountTalks
 pub mod PageSets
 pub mod RefusalExamples

@@ -35,7 +35,7 @@ module _ (k : ℕ) (b : Behind k) where
   }
 
   -- what a command's reference keeps may be read and written
-  first-keeps : (state : ShellState) (held : List (Option FileId)) (one : Keeper) (second : Option Keeper) → Knows k held state (Some one) second →
+  pub first-keeps : (state : ShellState) (held : List (Option FileId)) (one : Keeper) (second : Option Keeper) → Knows k held state (Some one) second →
       list_any (keeps_file one.file) held ≡ true
   first-keeps state held one second knows = known-kept k held (known_at state (Some one) second) OfFirst one knows refl
 
