@@ -55,6 +55,7 @@ pub mod OwnCopyTalks
 pub mod OwnFileTalks
 pub mod OwnFiles
 pub mod OwnFolderTalks
+pub mod OwnLines
 pub mod OwnMappingTalks
 pub mod OwnMountTalks
 pub mod PageSets
