@@ -1,11 +1,10 @@
 -- The references that a session knows of: each keeps its file, and none is known in two places.
-use Rattle.std.proofs.Common.{◌≡◌, ◌≢◌, ◌⊎◌, inl, inr, ℕ, zero, suc, ◌+◌, ◌-◌, ◌==◌, ◌<◌, ◌≤◌, Bool, true, false, ◌&&◌, ◌||◌, nat_lt, Option, Some, None, is_some, option_map, List, [], ◌∷◌, length, slice_index_or, slice_set, if◌then◌else◌, refl, sym, ap, subst, ◌∙◌, arith}
+use Rattle.std.proofs.Common.{◌≡◌, ◌≢◌, ◌⊎◌, inl, inr, ℕ, zero, suc, ◌-◌, ◌==◌, ◌<◌, Bool, true, false, ◌&&◌, ◌||◌, nat_lt, Option, Some, None, option_map, List, [], ◌∷◌, slice_index_or, if◌then◌else◌, refl, sym, ap, subst, ◌∙◌, arith}
 use Rattle.std.proofs.lemmas.Bool.Decides.{eqb_tells, nat_tests}
 use Rattle.std.proofs.lemmas.List.{get_or-set_same, get_or-set_other}
 use Rattle.std.specs.List.{list_any}
 use Rattle.vfs_base.specs.declared.ids.FileId.{FileId}
 use Rattle.vfs_base.specs.declared.ids.HoldId.{HoldId}
-use Rattle.vfs_model.proofs.FreePlaces.{get-in}
 use Rattle.vfs_model.specs.HeldFiles.{IsNew, file_held, keeps_file, with_held}
 use Rattle.vfs_model.specs.OpenFiles.{file_numbered}
 use Rattle.vfs_model.specs.declared.shell_state.OpenFile.{OpenFile}
@@ -76,7 +75,7 @@ place-there number other place place_of ne = elim (eqb_tells other number) [
 pub moved-kept : (k : ℕ) (held : List (Option FileId)) (known after : Place → Option Keeper) (from to : Place) (moved : Keeper) →
     AreKept k held known → known from ≡ Some moved →
     ((place : Place) (one : Keeper) → after place ≡ Some one →
-        ((place ≡ to) × (one ≡ moved)) ⊎ ((place ≢ from) × (known place ≡ Some one))) →
+    ((place ≡ to) × (one ≡ moved)) ⊎ ((place ≢ from) × (known place ≡ Some one))) →
     AreKept k held after
 moved-kept k held known after from to moved kept = λ at change. record {
   place_of = with_place_of moved.hold.number to kept.place_of;
@@ -140,9 +139,9 @@ added-kept k held known after to new kept = λ fresh change.
     (get_or-set_same held (new.hold.number - 1) (Some new.file) None (let a = fresh.above in let b = fresh.below in omega (arith, a, b))) in
     let apart : (place : Place) (one : Keeper) → known place ≡ Some one → one.hold.number ≢ new.hold.number =
     λ place one e same.
-        let stands = (is-held held k one.hold one.file (kept.kept place one e)).2 in
-        let free : slice_index_or held (one.hold.number - 1) None ≡ None = ap (λ n. slice_index_or held (n - 1) None) same ∙ fresh.free in
-        absurd (cc) in
+    let stands = (is-held held k one.hold one.file (kept.kept place one e)).2 in
+    let free : slice_index_or held (one.hold.number - 1) None ≡ None = ap (λ n. slice_index_or held (n - 1) None) same ∙ fresh.free in
+    absurd (cc) in
     record {
       place_of = with_place_of new.hold.number to kept.place_of;
       kept = λ place one e. elim (change place one e) [

@@ -1,6 +1,6 @@
 -- A session knows its references where they were as its mappings change, or where they are now.
-use Rattle.std.proofs.Common.{◌≡◌, ◌≢◌, ◌⊎◌, inl, inr, ℕ, ◌+◌, ◌-◌, ◌==◌, Bool, true, false, not, ◌&&◌, nat_lt, Option, Some, None, option_map, Result, Ok, Err, List, [], ◌∷◌, slice_index_or, slice_set, if◌then◌else◌, refl, sym, ap, subst, ◌∙◌}
-use Rattle.std.specs.List.{list_any, position_or_len}
+use Rattle.std.proofs.Common.{◌≡◌, ◌≢◌, ◌⊎◌, inl, inr, ℕ, ◌+◌, ◌-◌, ◌==◌, Bool, true, false, not, ◌&&◌, nat_lt, Option, Some, None, option_map, Result, Ok, Err, List, slice_index_or, slice_set, if◌then◌else◌, refl, sym, ap, subst, ◌∙◌}
+use Rattle.std.specs.List.{list_any}
 use Rattle.vfs_base.specs.declared.errno.Errno.{Errno}
 use Rattle.vfs_base.specs.declared.errno.Errno.TheVariants as errno
 use Rattle.vfs_base.specs.declared.ids.FileId.{FileId}
@@ -9,7 +9,7 @@ use Rattle.vfs_model.proofs.KnownOpenFiles.{map-some, set-cases, then-ok}
 use Rattle.vfs_model.specs.Chain.{◌>>=◌, ◌>>◌, refuse◌when◌, wanted}
 use Rattle.vfs_model.specs.HeldFiles.{keeps_file}
 use Rattle.vfs_model.specs.MappingCommands.{with_mappings}
-use Rattle.vfs_model.specs.Mappings.{FilePlace, NewMapping, TakenMapping, add_mapping, check_mapping, has_all_mappings, least_free_mapping, mapping, mapping_at, remove_mapping, with_mapping}
+use Rattle.vfs_model.specs.Mappings.{FilePlace, NewMapping, TakenMapping, add_mapping, check_mapping, has_all_mappings, least_free_mapping, mapping, remove_mapping, with_mapping}
 use Rattle.vfs_model.specs.declared.shell_state.ShellState.{ShellState}
 use Rattle.vfs_model.specs.declared.shell_state.Window.{Window}
 

@@ -1,13 +1,12 @@
 -- A session knows its references where they were as its open files change, or where they are now.
-use Rattle.std.proofs.Common.{◌≡◌, ◌≢◌, ◌⊎◌, inl, inr, ℕ, zero, suc, ◌-◌, Bool, true, false, is_none, nat_lt, Option, Some, None, option_map, Result, Ok, Err, List, [], ◌∷◌, slice_index_or, slice_set, if◌then◌else◌, refl, sym, ap, subst, ◌∙◌}
+use Rattle.std.proofs.Common.{◌≡◌, ◌≢◌, ◌⊎◌, inl, inr, ℕ, zero, suc, Bool, true, false, Option, Some, None, option_map, Result, Ok, Err, List, [], ◌∷◌, slice_index_or, slice_set, if◌then◌else◌, refl, sym, ap, subst, ◌∙◌}
 use Rattle.std.specs.Option.{option_and_then}
 use Rattle.std.specs.List.{list_any}
 use Rattle.std.specs.Prelude.{ℤ}
 use Rattle.vfs_base.specs.declared.errno.Errno.{Errno}
 use Rattle.vfs_base.specs.declared.errno.Errno.TheVariants as errno
 use Rattle.vfs_base.specs.declared.ids.FileId.{FileId}
-use Rattle.vfs_base.specs.declared.limits.TheConstants.{FIRST_DESCRIPTOR}
-use Rattle.vfs_model.proofs.KnownFiles.{AreKept, Keeper, Knows, OfFile, OfFirst, OfMapping, OfSecond, Place, fewer-kept, keeps_open, known-kept, known_at, moved-kept}
+use Rattle.vfs_model.proofs.KnownFiles.{Keeper, Knows, OfFile, OfFirst, OfMapping, OfSecond, Place, fewer-kept, keeps_open, known-kept, known_at, moved-kept}
 use Rattle.vfs_model.specs.Chain.{◌>>=◌, ◌>>◌, refuse◌when◌, wanted}
 use Rattle.vfs_model.specs.FileCommands.{changed_or_same}
 use Rattle.vfs_model.specs.HeldFiles.{file_held, keeps_file}

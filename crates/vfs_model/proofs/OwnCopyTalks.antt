@@ -3,15 +3,13 @@ use Rattle.std.specs.Prelude.{◌≡◌, ℕ, true, Option, Some, None, List, []
 use Rattle.std.specs.List.{list_any}
 use Rattle.vfs_base.specs.declared.reply.Reply.{Reply}
 use Rattle.vfs_base.specs.declared.reply.Reply.TheVariants as reply
-use Rattle.vfs_base.specs.declared.step.Step.{Step}
 use Rattle.vfs_base.specs.declared.step.Step.TheVariants as step
 use Rattle.vfs_base.specs.declared.kinds.Kind.{Kind}
 use Rattle.vfs_base.specs.declared.ids.FileId.{FileId}
-use Rattle.vfs_base.specs.declared.ids.HoldId.{HoldId}
 use Rattle.vfs_model.proofs.KnownFiles.{Keeper, Knows, OfFirst, OfSecond, first-closed, first-opened, forgets, forgets-second, known-kept, known_at, second-closed, second-opened}
 use Rattle.vfs_model.proofs.OwnFiles.{AsksOwn, Behind, IsPlain, OptionAsks, RoundAsks, TalkAsks, WordsAsk, asking-own, asking-plain, if-asks, if-round, known, showing, turning, two-ask}
 use Rattle.vfs_model.specs.CommandText.{with_error}
-use Rattle.vfs_model.specs.CopyCommands.{CopyFile, CopyStage, Reads, Writes, close_both, close_source, copy_bytes, copy_closed, copy_command, copy_cut, copy_from_start, copy_got, copy_left, copy_read, copy_round, copy_step, copy_written, cp, destination_opened, is_cut, open_destination, same_file, source_opened, to_replace}
+use Rattle.vfs_model.specs.CopyCommands.{CopyFile, CopyStage, Reads, Writes, close_both, close_source, copy_bytes, copy_closed, copy_command, copy_cut, copy_from_start, copy_got, copy_left, copy_read, copy_round, copy_step, copy_written, cp, destination_opened, is_cut, same_file, source_opened, to_replace}
 use Rattle.vfs_model.specs.HeldFiles.{OpensNew, held_after_close, held_after_open, keeps_file, with_held}
 use Rattle.vfs_model.specs.Mappings.{is_chr}
 use Rattle.vfs_model.specs.Talk.{After, Again, Round, Talk, ask, ask_holding, shows}

@@ -1,8 +1,6 @@
 -- The commands of open files ask only what the session may ask.
-use Rattle.std.specs.Prelude.{◌≡◌, ℕ, ◌*◌, Bool, true, false, not, ◌&&◌, nat_lt, ℤ, Option, Some, None, option_map, Result, Ok, Err, List, [], ◌∷◌, length, codes, if◌then◌else◌, refl}
-use Rattle.std.proofs.Common.{sym, ap, ◌∙◌}
+use Rattle.std.specs.Prelude.{◌≡◌, ℕ, ◌*◌, Bool, true, false, not, ◌&&◌, nat_lt, ℤ, Option, Some, None, option_map, Ok, List, [], ◌∷◌, length, codes, if◌then◌else◌, refl}
 use Rattle.std.specs.List.{list_any, repeat}
-use Rattle.vfs_base.specs.declared.errno.Errno.{Errno}
 use Rattle.vfs_base.specs.declared.errno.Errno.TheVariants as errno
 use Rattle.vfs_base.specs.declared.flags.OpenFlags.{OpenFlags}
 use Rattle.vfs_base.specs.declared.ids.FileId.{FileId}
@@ -10,21 +8,19 @@ use Rattle.vfs_base.specs.declared.kinds.Kind.{Kind}
 use Rattle.vfs_base.specs.declared.limits.TheConstants.{READ_MAX, WRITE_MAX}
 use Rattle.vfs_base.specs.declared.reply.Reply.{Reply}
 use Rattle.vfs_base.specs.declared.reply.Reply.TheVariants as reply
-use Rattle.vfs_base.specs.declared.step.Step.{Step}
 use Rattle.vfs_base.specs.declared.step.Step.TheVariants as step
 use Rattle.vfs_model.proofs.KnownFiles.{Keeper, Knows, first-closed, first-opened, keeps_open}
 use Rattle.vfs_model.proofs.KnownOpenFiles.{add-known, changed-same, close-known, dup-same, found-ok, open-kept, place-same, same-files-kept, seek-same, then-ok}
 use Rattle.vfs_model.proofs.OwnCopyTalks.{closes-asks as closing, first-keeps}
 use Rattle.vfs_model.proofs.OwnFiles.{AsksOwn, Behind, IsPlain, OptionAsks, TalkAsks, WordsAsk, asking, asking-own, asking-plain, changing-asks, checked-own, if-asks, known, meaning-asks, one-asks, showing, three-ask, two-ask}
 use Rattle.vfs_model.proofs.OwnFolderTalks.{done-asks, step-asks}
-use Rattle.vfs_model.specs.Chain.{◌>>=◌, ◌>>◌, refuse◌when◌}
+use Rattle.vfs_model.specs.Chain.{◌>>◌, refuse◌when◌}
 use Rattle.vfs_model.specs.CommandText.{fails, number_line, subject_error_line}
 use Rattle.vfs_model.specs.CommandWords.{flags_of, meaning, number_of, offset_of, same_word}
 use Rattle.vfs_model.specs.CopyCommands.{is_cut}
 use Rattle.vfs_model.specs.FileCommands.{changed_or_same, cut_checks, cut_file, file_command, fsync, ftruncate, ftruncate_form, kind_place, lseek, lseek_file, lseek_form, placed_file, read, read_checks, read_file, read_form, read_replied, seek_from, seek_place, seek_sized, sync_file, with_place, write, write_checks, write_file, write_form, write_replied, write_step}
 use Rattle.vfs_model.specs.FolderCommands.{done_or_fails, one_step}
 use Rattle.vfs_model.specs.HeldFiles.{OpensNew, held_after_close, held_after_open, keeps_file}
-use Rattle.vfs_model.specs.Mappings.{is_chr}
 use Rattle.vfs_model.specs.OpenCommands.{add_opened, close, close_descriptor, close_last, cut_opened, cut_replied, descriptor_line, dup, dup_descriptor, open_form, open_path, open_replied, open_words, opened_file, with_open_files}
 use Rattle.vfs_model.specs.OpenFiles.{add_file, close_file, dup_file, has_all_descriptors, open_file, seek, set_place}
 use Rattle.vfs_model.specs.OpenStep.{truncates}

@@ -1,5 +1,5 @@
 -- The commands of folders and names ask only what the session may ask.
-use Rattle.std.specs.Prelude.{ℕ, Option, Some, None, List, [], ◌∷◌, codes, refl}
+use Rattle.std.specs.Prelude.{ℕ, Option, None, List, [], ◌∷◌, codes, refl}
 use Rattle.vfs_base.specs.declared.reply.Reply.{Reply}
 use Rattle.vfs_base.specs.declared.reply.Reply.TheVariants as reply
 use Rattle.vfs_base.specs.declared.step.Step.{Step}
@@ -10,11 +10,9 @@ use Rattle.vfs_base.specs.declared.kinds.NodeKind.{NodeKind}
 use Rattle.vfs_base.specs.declared.kinds.NodeKind.TheVariants as node
 use Rattle.vfs_base.specs.declared.ids.FileId.{FileId}
 use Rattle.vfs_base.specs.declared.reply.ListEntry.{ListEntry}
-use Rattle.vfs_model.proofs.KnownFiles.{Keeper, Knows}
-use Rattle.vfs_model.proofs.OwnFiles.{Behind, IsPlain, OptionAsks, TalkAsks, WordsAsk, asking, changing-asks, if-asks, known, none-asks, one-asks, showing, two-ask}
+use Rattle.vfs_model.proofs.OwnFiles.{Behind, IsPlain, OptionAsks, WordsAsk, asking, changing-asks, if-asks, known, none-asks, one-asks, showing, two-ask}
 use Rattle.vfs_model.specs.FolderCommands.{cd, done_or_fails, folder_command, in_folder, is_absent, list_entries, list_file, list_node, listed, ls, mkdir, moved_to, mv, one_step, pwd, remove_all, removed, rm, rmdir, sized, stat, stat_file, stat_node, stat_size, tell_folder, told_folder}
 use Rattle.vfs_model.specs.Talk.{Talk, ask, changing, shows}
-use Rattle.vfs_model.specs.declared.shell_state.ShellState.{ShellState}
 
 module _ (k : ℕ) (b : Behind k) where
   pub done-asks : (command subject : List ℕ) (reply : Reply) → WordsAsk k b (done_or_fails command subject reply)

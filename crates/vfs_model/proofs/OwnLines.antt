@@ -1,5 +1,5 @@
 -- Every line of the shell, and every exit, asks only what the session may ask.
-use Rattle.std.proofs.Common.{◌≡◌, ℕ, zero, suc, Bool, true, false, ◌&&◌, Option, Some, None, option_map, Result, Ok, Err, List, [], ◌∷◌, ◌++◌, length, replicate, slice_index_or, if◌then◌else◌, refl, sym, ap, ◌∙◌}
+use Rattle.std.proofs.Common.{◌≡◌, ℕ, zero, suc, Bool, true, ◌&&◌, Option, Some, None, option_map, Result, Ok, Err, List, [], ◌∷◌, ◌++◌, length, replicate, slice_index_or, refl, sym, ap, ◌∙◌}
 use Rattle.std.proofs.lemmas.Bool.{and_parts}
 use Rattle.std.specs.List.{cons_option, filter_map, list_all}
 use Rattle.std.specs.Prelude.{codes, slice_get}
@@ -12,7 +12,7 @@ use Rattle.vfs_base.specs.declared.step.Step.TheVariants as step
 use Rattle.vfs_model.proofs.KnownFiles.{Keeper, Knows, OfFile, OfFirst, OfMapping, OfSecond, Place, keeps_open, keeps_window, known_at}
 use Rattle.vfs_model.proofs.OwnCopyTalks.{copy-asks}
 use Rattle.vfs_model.proofs.OwnFileTalks.{file-asks}
-use Rattle.vfs_model.proofs.OwnFiles.{AsksOwn, Behind, OptionAsks, WordsAsk, known, none-asks, showing}
+use Rattle.vfs_model.proofs.OwnFiles.{Behind, OptionAsks, WordsAsk, known, none-asks, showing}
 use Rattle.vfs_model.proofs.OwnFolderTalks.{folder-asks}
 use Rattle.vfs_model.proofs.OwnMappingTalks.{mapping-asks}
 use Rattle.vfs_model.proofs.OwnMountTalks.{mount-asks}

@@ -1,7 +1,6 @@
 -- The commands of mappings ask only what the session may ask.
-use Rattle.std.specs.Prelude.{◌≡◌, ℕ, Bool, true, false, nat_lt, ◌++◌, Option, Some, None, Result, Ok, Err, List, [], ◌∷◌, length, codes, decimal, refl}
-use Rattle.std.proofs.Common.{sym, ap, subst}
-use Rattle.vfs_base.specs.declared.errno.Errno.{Errno}
+use Rattle.std.specs.Prelude.{◌≡◌, ℕ, Bool, true, false, nat_lt, ◌++◌, Option, Some, None, Ok, List, [], ◌∷◌, length, codes, decimal, refl}
+use Rattle.std.proofs.Common.{sym, subst}
 use Rattle.vfs_base.specs.declared.errno.Errno.TheVariants as errno
 use Rattle.vfs_base.specs.declared.ids.FileId.{FileId}
 use Rattle.vfs_base.specs.declared.limits.TheConstants.{READ_MAX}
@@ -14,7 +13,7 @@ use Rattle.vfs_model.proofs.KnownOpenFiles.{found-ok, open-held, then-ok}
 use Rattle.vfs_model.proofs.OwnFileTalks.{gone-asks}
 use Rattle.vfs_model.proofs.OwnFiles.{AsksOwn, Behind, OptionAsks, TalkAsks, WordsAsk, asking-own, asking-plain, checked-own, four-ask, known, meaning-asks, one-asks, showing, three-ask}
 use Rattle.vfs_model.proofs.OwnFolderTalks.{step-asks}
-use Rattle.vfs_model.specs.Chain.{◌>>=◌, ◌>>◌, refuse◌when◌}
+use Rattle.vfs_model.specs.Chain.{◌>>◌, refuse◌when◌}
 use Rattle.vfs_model.specs.CommandText.{fails, line}
 use Rattle.vfs_model.specs.CommandWords.{meaning, number_of}
 use Rattle.vfs_model.specs.FolderCommands.{done_or_fails, one_step}
@@ -78,8 +77,11 @@ module _ (k : ℕ) (b : Behind k) where
         (λ at. ask (step.Load at.file at.place len) (load_replied word)) state held
         (λ errno. (showing k b None None _).from state held knows)
         (λ at e. asking-plain k b [] (step.Load at.file at.place len) (load_replied word) state held
-        (record { may = check-kept k held state number off len false at knows
-            (then-ok (refuse errno.EINVAL when nat_lt READ_MAX len) (check_mapping state.mappings number off len false) at e); same = λ reply. refl })
+        (record {
+          may = check-kept k held state number off len false at knows
+              (then-ok (refuse errno.EINVAL when nat_lt READ_MAX len) (check_mapping state.mappings number off len false) at e);
+          same = λ reply. refl;
+        })
         (λ reply. (loaded-asks word reply).from state held knows));
   }
 

@@ -1,11 +1,10 @@
 -- The commands of mounts and devices ask only what the session may ask.
-use Rattle.std.specs.Prelude.{ℕ, Option, Some, None, List, [], ◌∷◌, codes, refl}
+use Rattle.std.specs.Prelude.{ℕ, None, List, [], ◌∷◌, codes, refl}
 use Rattle.vfs_base.specs.declared.reply.Reply.{Reply}
 use Rattle.vfs_base.specs.declared.reply.Reply.TheVariants as reply
-use Rattle.vfs_base.specs.declared.step.Step.{Step}
 use Rattle.vfs_base.specs.declared.step.Step.TheVariants as step
 use Rattle.vfs_base.specs.declared.ids.FileId.{FileId}
-use Rattle.vfs_model.proofs.OwnFiles.{Behind, IsPlain, OptionAsks, WordsAsk, asking, if-asks, known, none-asks, one-asks, showing, three-ask}
+use Rattle.vfs_model.proofs.OwnFiles.{Behind, OptionAsks, WordsAsk, asking, if-asks, known, none-asks, one-asks, showing, three-ask}
 use Rattle.vfs_model.proofs.OwnFolderTalks.{step-asks}
 use Rattle.vfs_model.specs.FolderCommands.{is_absent, one_step}
 use Rattle.vfs_model.specs.MountCommands.{cells_told, dentries, devices_told, df, holders_told, list_device, mkfs, mount, mount_command, mounts_told, sync, sync_files, synced, umount}
