@@ -27,6 +27,7 @@ pub mod FileMoves
 pub mod FileStep
 pub mod FolderCommands
 pub mod Gives
+pub mod HeldFiles
 pub mod HolderLaws
 pub mod Holders
 pub mod Homes
