@@ -34,6 +34,10 @@ pub mod FolderTalks
 pub mod FreeNumbers
 pub mod FreePlaces
 pub mod GrowingRuns
+pub mod HeldReferences
+pub mod HeldSteps
+pub mod HeldWorlds
+pub mod KeptReferences
 pub mod LeadCounts
 pub mod LineTalks
 pub mod LivingFiles
