@@ -1,14 +1,13 @@
 -- A reference is put or given up: what the sessions' references keep then, each its own part of the list.
-use Rattle.std.proofs.Common.{◌≡◌, ◌≢◌, ◌⊎◌, inl, inr, ℕ, zero, suc, ◌==◌, ◌&&◌, ◌||◌, ◌+◌, ◌-◌, ◌*◌, ◌<◌, ◌≤◌, Bool, true, false, nat_lt, is_none, Option, Some, None, option_map, List, [], ◌∷◌, length, map, take, drop, slice_index_or, slice_set, refl, sym, ap, ◌∙◌, arith}
+use Rattle.std.proofs.Common.{◌≡◌, ◌≢◌, inl, inr, ℕ, zero, suc, ◌==◌, ◌&&◌, ◌||◌, ◌+◌, ◌-◌, ◌*◌, ◌<◌, ◌≤◌, is_none, Option, Some, None, option_map, List, [], ◌∷◌, length, map, take, drop, slice_index_or, slice_set, refl, ap, ◌∙◌, arith}
 use Rattle.std.proofs.Math.Seq.{take-set-lt}
 use Rattle.std.proofs.lemmas.Bool.Decides.{leb_tells}
 use Rattle.std.proofs.lemmas.List.{drop-set-add, drop-set-lt, length-drop, length-map, length-take, map-set, take-set-le}
 use Rattle.std.specs.List.{list_any, position_or_len}
 use Rattle.std.specs.Prelude.{slice_range}
 use Rattle.vfs_base.specs.declared.ids.FileId.{FileId}
-use Rattle.vfs_base.specs.declared.ids.HoldId.{HoldId}
 use Rattle.vfs_base.specs.declared.step.Step.{Step}
-use Rattle.vfs_model.specs.Asking.{has_file, may_ask_file, names_file, needs_no_reference}
+use Rattle.vfs_model.specs.Asking.{may_ask_file, names_file, needs_no_reference}
 use Rattle.vfs_model.specs.FileStep.{step_file}
 use Rattle.vfs_model.specs.HeldFiles.{IsNew, held_by, keeps_file, may_ask_held}
 use Rattle.vfs_model.specs.Namespace.{references_of, with_reference}

@@ -1,7 +1,6 @@
 -- What the sessions' references keep after each step of the world.
-use Rattle.std.proofs.Common.{◌≡◌, ◌≢◌, ℕ, ◌<◌, ◌≤◌, Bool, true, false, Option, Some, None, List, length, fold, refl, ap, ◌∙◌}
+use Rattle.std.proofs.Common.{◌≡◌, ◌≢◌, ℕ, ◌<◌, ◌≤◌, false, Option, Some, None, List, length, fold, refl, ap, ◌∙◌}
 use Rattle.vfs_base.specs.declared.entry.Mark.{Mark}
-use Rattle.vfs_base.specs.declared.entry.Who.{Who}
 use Rattle.vfs_base.specs.declared.entry.Who.TheVariants as who
 use Rattle.vfs_base.specs.declared.ids.FileId.{FileId}
 use Rattle.vfs_base.specs.declared.reply.Reply.{Reply}
@@ -13,7 +12,6 @@ use Rattle.vfs_model.specs.Homes.{change_row}
 use Rattle.vfs_model.specs.NamespaceOutcome.{NamespaceOutcome}
 use Rattle.vfs_model.specs.NamespaceStep.{is_shutdown, namespace_step}
 use Rattle.vfs_model.specs.World.{WorldOutcome, after_format, namespace_part, step_on, step_row, world_step}
-use Rattle.vfs_model.specs.declared.namespace.Namespace.{Namespace}
 use Rattle.vfs_model.specs.declared.world.WorldState.{WorldState}
 use Rattle.vfs_model.proofs.HeldSteps.{LeavesHeld, step-leaves}
 use Rattle.vfs_model.proofs.Rests.{changed-namespace}

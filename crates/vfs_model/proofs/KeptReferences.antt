@@ -1,5 +1,5 @@
 -- Only opening, mapping and giving up change what references there are, and the end.
-use Rattle.std.proofs.Common.{◌≡◌, ℕ, ◌-◌, Bool, true, false, not, ◌||◌, Option, Some, None, List, [], ◌∷◌, ◌++◌, fold, slice_set, Result, if◌then◌else◌, refl, ◌∙◌}
+use Rattle.std.proofs.Common.{◌≡◌, ℕ, ◌-◌, Bool, true, false, not, ◌||◌, Option, Some, None, List, [], ◌∷◌, ◌++◌, fold, slice_set, if◌then◌else◌, refl, ◌∙◌}
 use Rattle.std.specs.List.{list_any}
 use Rattle.vfs_base.specs.Path.{Path}
 use Rattle.vfs_base.specs.declared.errno.Errno.TheVariants as errno

@@ -20,7 +20,8 @@
 // - on names: NameKeeping; Open: OpenKeeping; Close, Map, Unmap: FileKeepingSteps; Rename: Renaming, MoveKeeping
 // - Mount: Adding, MountKeeping, Filling, FillAll, MountEnd; what a rom shows then: RomFiles, RomMount; Mkfs: MkfsKeeping
 // - Umount: Unmounting, Vacating, MountRemoval, UmountKeeping; Shutdown: Resting, RootRemoval, ShutdownKeeping
-// - of one file: WorldKeeping; every step and every list of steps: WorldSteps; the start: Opening; every schedule of a script: ScriptKeeping
+// - of one file: WorldKeeping; every step and every list of steps: WorldSteps; the start: Opening
+// - every schedule of a script: ScriptKeeping; what it asks: ScriptAsking
 
 ghost use Rattle.world_laws.specs.Mounted.{MountedRomShowsItsFiles};
 ghost use Rattle.world_laws.specs.Keeping.{AskedMayBeTaken, FileStepsKeepConsistency, OpeningIsConsistent, RunsKeepConsistency, StepsKeepConsistency};
