@@ -34,6 +34,10 @@ pub mod FolderTalks
 pub mod FreeNumbers
 pub mod FreePlaces
 pub mod GrowingRuns
+pub mod HeldReferences
+pub mod HeldSteps
+pub mod HeldWorlds
+pub mod KeptReferences
 pub mod KnownFiles
 pub mod KnownMappings
 pub mod KnownOpenFiles
@@ -63,10 +67,10 @@ pub mod RefusalExamples
 pub mod RefusedSteps
 pub mod RenameLaws
 pub mod ReplyTaking
-pub mod RowChangeExamples
-pub mod RowChanges
 pub mod RestExamples
 pub mod Rests
+pub mod RowChangeExamples
+pub mod RowChanges
 pub mod RowShapes
 pub mod ScheduleExactness
 pub mod ScheduleExamples

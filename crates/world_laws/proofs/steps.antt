@@ -17,6 +17,8 @@ pub mod Resting
 pub mod RomFiles
 pub mod RomMount
 pub mod RootRemoval
+pub mod ScriptAsking
+pub mod ScriptKeeping
 pub mod ShutdownKeeping
 pub mod StepKeeping
 pub mod UmountKeeping

@@ -21,9 +21,11 @@
 // - Mount: Adding, MountKeeping, Filling, FillAll, MountEnd; what a rom shows then: RomFiles, RomMount; Mkfs: MkfsKeeping
 // - Umount: Unmounting, Vacating, MountRemoval, UmountKeeping; Shutdown: Resting, RootRemoval, ShutdownKeeping
 // - of one file: WorldKeeping; every step and every list of steps: WorldSteps; the start: Opening
+// - every schedule of a script: ScriptKeeping; what it asks: ScriptAsking
 
 ghost use Rattle.world_laws.specs.Mounted.{MountedRomShowsItsFiles};
 ghost use Rattle.world_laws.specs.Keeping.{AskedMayBeTaken, FileStepsKeepConsistency, OpeningIsConsistent, RunsKeepConsistency, StepsKeepConsistency};
+ghost use Rattle.world_laws.specs.Scripts.{ScriptsStayConsistent};
 
 /// The world at the start of every script is consistent, whatever devices there are: the roms of a script are trees.
 pub fn opening_is_consistent()
@@ -48,6 +50,11 @@ pub fn steps_keep_consistency()
 /// Steps that may be taken one after the other keep the world consistent.
 pub fn runs_keep_consistency()
     ensures { RunsKeepConsistency }
+{}
+
+/// Where a script stands after any schedule of its sessions, the worker and the end, the world is consistent.
+pub fn scripts_stay_consistent()
+    ensures { ScriptsStayConsistent }
 {}
 
 /// Below the point of a rom that was mounted stands what the rom has, with its bytes, and nothing else.
