@@ -1,8 +1,8 @@
 -- Keys that are counted one after the other: how often each stands among them.
-use Rattle.std.specs.Prelude.{◌≡◌, ℕ, ◌+◌, ◌==◌, ◌<◌, Bool, true, false, T, Option, Some, None, unwrap_or, List, [], ◌∷◌, ◌++◌, cond, flat_map, fold, map, refl}
+use Rattle.std.specs.Prelude.{◌≡◌, ℕ, ◌+◌, ◌==◌, ◌<◌, Bool, true, false, T, Some, unwrap_or, List, [], ◌∷◌, ◌++◌, cond, flat_map, fold, map, refl}
 use Rattle.std.specs.Cmp.{IsTotalOrder, unsigned_tied}
 use Rattle.std.specs.FinMap.Entries.{find as value_at, find-put, is_sorted, is_sorted-put}
-use Rattle.std.specs.List.{count_by, sum_by}
+use Rattle.std.specs.List.{count_by}
 use Rattle.std.specs.Ordering.{eq_by_cmp, nat_cmp}
 use Rattle.std.specs.declared.cmp.Ordering.{Ordering}
 use Rattle.std.proofs.Common.{sym, ◌∙◌, ap, arith}

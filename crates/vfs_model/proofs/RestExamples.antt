@@ -1,5 +1,5 @@
 -- Worked examples of what the end leaves where something is in use still.
-use Rattle.std.specs.Prelude.{◌≡◌, Bool, true, false, Some, List, [], ◌∷◌, codes, map, refl}
+use Rattle.std.specs.Prelude.{◌≡◌, true, List, [], ◌∷◌, codes, map, refl}
 use Rattle.vfs_base.specs.declared.entry.Mark.TheVariants as mark
 use Rattle.vfs_base.specs.declared.step.Step.TheVariants as step
 use Rattle.vfs_model.proofs.DeviceExamples.{on_volume, sd0}

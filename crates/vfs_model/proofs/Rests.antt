@@ -1,5 +1,5 @@
 -- The end leaves nothing in use, and brings nothing to rest that is at rest.
-use Rattle.std.proofs.Common.{◌≡◌, ◌≢◌, ℕ, zero, suc, ◌+◌, ◌-◌, ◌<◌, Bool, true, false, not, ◌&&◌, ◌||◌, Option, Some, None, is_none, is_some, List, [], ◌∷◌, length, map, filter, fold, reverse, slice_index_or, slice_set, if◌then◌else◌, refl, sym, ap, ◌∙◌, arith}
+use Rattle.std.proofs.Common.{◌≡◌, ◌≢◌, ℕ, suc, ◌+◌, ◌-◌, Bool, true, false, not, ◌&&◌, ◌||◌, Option, Some, None, is_none, is_some, List, [], ◌∷◌, map, filter, fold, reverse, slice_index_or, slice_set, if◌then◌else◌, refl, ap, ◌∙◌, arith}
 use Rattle.std.specs.List.{list_all, list_any, enumerate_from}
 use Rattle.vfs_base.specs.Path.{Path}
 use Rattle.vfs_base.specs.declared.entry.Mark.{Mark}
@@ -18,7 +18,7 @@ use Rattle.vfs_model.specs.Lookup.{with_tree}
 use Rattle.vfs_model.specs.Namespace.{life_at, same_path}
 use Rattle.vfs_model.specs.NamespaceStep.{namespace_step, shutdown_step}
 use Rattle.vfs_model.specs.UmountSteps.{come_to_rest, empty_mount, keep_names, remove_all, remove_mount, rows_of_mount, unlinked_rows, unreferred}
-use Rattle.vfs_model.specs.World.{session_of, world_step}
+use Rattle.vfs_model.specs.World.{world_step}
 use Rattle.vfs_model.specs.declared.namespace.Backing.{Backing}
 use Rattle.vfs_model.specs.declared.namespace.End.{End}
 use Rattle.vfs_model.specs.declared.namespace.End.TheVariants as end

@@ -1,5 +1,5 @@
 -- What the types of file systems and their sources offer to a mount.
-use Rattle.std.specs.Prelude.{ℕ, Bool, ◌&&◌, is_some, Option, Some, None, List, [], ◌∷◌, map, fold, codes, count_by, slice_index_or, if◌then◌else◌}
+use Rattle.std.specs.Prelude.{ℕ, Bool, true, false, ◌&&◌, is_some, Option, Some, None, List, [], ◌∷◌, map, fold, codes, count_by, slice_index_or, if◌then◌else◌}
 use Rattle.std.specs.FinMap.Entries.{put}
 use Rattle.std.specs.List.{list_any, position_or_len, enumerate_from}
 use Rattle.vfs_base.specs.Path.{Path, path_cmp}
@@ -25,15 +25,12 @@ fs_type_of word =
     else if same_bytes word (codes "devfs") then Some fs.Dev
     else None
 
--- the word that names a type
-abbrev pub type_word : FsType → List ℕ
-type_word fs.Tmp = codes "tmp"
-type_word fs.Rom = codes "rom"
-type_word fs.Cell = codes "cell"
-type_word fs.Dev = codes "devfs"
-
 abbrev pub same_type : FsType → FsType → Bool
-same_type a b = same_bytes (type_word a) (type_word b)
+same_type fs.Tmp fs.Tmp = true
+same_type fs.Rom fs.Rom = true
+same_type fs.Cell fs.Cell = true
+same_type fs.Dev fs.Dev = true
+same_type _ _ = false
 
 -- What a source has, in the order of paths: at each path a folder (None), or a file by what it begins with.
 abbrev pub Content : Type 0

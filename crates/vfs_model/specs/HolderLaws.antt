@@ -6,7 +6,6 @@ use Rattle.std.specs.Ordering.{nat_cmp}
 use Rattle.vfs_base.specs.Path.{Path, path_cmp}
 use Rattle.vfs_model.specs.Holders.{counted, holder_paths, nameless_rows, reference_paths}
 use Rattle.vfs_model.specs.Namespace.{all_mounts, same_path}
-use Rattle.vfs_model.specs.declared.namespace.Mount.{Mount}
 use Rattle.vfs_model.specs.declared.namespace.Namespace.{Namespace}
 
 -- how many holders a path has: references to the file that stands there, sessions that stand in it, and mounts on it

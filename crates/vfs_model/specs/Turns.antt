@@ -102,18 +102,17 @@ same_who (who.Reclaim p) (who.Reclaim q) = p == q
 same_who who.End who.End = true
 same_who _ _ = false
 
+-- there is a value, and it passes
+abbrev pub is_some_and : {X : Type 0} → Option X → (X → Bool) → Bool
+is_some_and None test = false
+is_some_and (Some x) test = test x
+
 -- each entry is of the one whose turn it is, from a state and an agenda on
 abbrev pub keeps_turns : Deck → RunState → Agenda → List Entry → Bool
 keeps_turns deck s agenda [] = true
-keeps_turns deck s agenda (entry ∷ entries) = by_turn (next_turn s agenda.posted agenda.tasks) (λ next later. keeps_turns deck next later entries)
-  where
-    by_state : Option RunState → Agenda → (RunState → Agenda → Bool) → Bool
-    by_state None later go = false
-    by_state (Some next) later go = go next later
-
-    by_turn : Option Turn → (RunState → Agenda → Bool) → Bool
-    by_turn None go = false
-    by_turn (Some turn) go = same_who turn.who entry.who && by_state (take_entry deck s entry) turn.agenda go
+keeps_turns deck s agenda (entry ∷ entries) =
+    is_some_and (next_turn s agenda.posted agenda.tasks) (λ turn. same_who turn.who entry.who
+    && is_some_and (take_entry deck s entry) (λ next. keeps_turns deck next turn.agenda entries))
 
 -- A schedule follows the lines of the script: in `shell` and `replay` they say whose turn it is at each entry, and in
 -- `run` only the end has its place.

@@ -25,7 +25,7 @@
 
 ghost use Rattle.world_laws.specs.Mounted.{MountedRomShowsItsFiles};
 ghost use Rattle.world_laws.specs.Keeping.{AskedMayBeTaken, FileStepsKeepConsistency, OpeningIsConsistent, RunsKeepConsistency, StepsKeepConsistency};
-ghost use Rattle.world_laws.specs.Scripts.{ScriptsStayConsistent};
+ghost use Rattle.world_laws.specs.Scripts.{ScriptStepsMayBeAsked, ScriptsStayConsistent};
 
 /// The world at the start of every script is consistent, whatever devices there are: the roms of a script are trees.
 pub fn opening_is_consistent()
@@ -55,6 +55,11 @@ pub fn runs_keep_consistency()
 /// Where a script stands after any schedule of its sessions, the worker and the end, the world is consistent.
 pub fn scripts_stay_consistent()
     ensures { ScriptsStayConsistent }
+{}
+
+/// Where a script stands after any schedule, each session may ask the step that it wants, and the worker each of its own.
+pub fn script_steps_may_be_asked()
+    ensures { ScriptStepsMayBeAsked }
 {}
 
 /// Below the point of a rom that was mounted stands what the rom has, with its bytes, and nothing else.
