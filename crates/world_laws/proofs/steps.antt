@@ -1,5 +1,6 @@
 -- The steps: each keeps what holds, and so does every list of them.
 pub mod Adding
+pub mod BoundFiles
 pub mod FileKeepingSteps
 pub mod FillAll
 pub mod Filling
@@ -14,7 +15,6 @@ pub mod OpenKeeping
 pub mod Opening
 pub mod Renaming
 pub mod Resting
-pub mod RomFiles
 pub mod RomMount
 pub mod RootRemoval
 pub mod ShutdownKeeping

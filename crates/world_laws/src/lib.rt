@@ -18,7 +18,7 @@
 //
 // `steps`: Keeping says what a step keeps, and StepKeeping has a case for each.
 // - on names: NameKeeping; Open: OpenKeeping; Close, Map, Unmap: FileKeepingSteps; Rename: Renaming, MoveKeeping
-// - Mount: Adding, MountKeeping, Filling, FillAll, MountEnd; what a rom shows then: RomFiles, RomMount; Mkfs: MkfsKeeping
+// - Mount: Adding, MountKeeping, Filling, FillAll, MountEnd; what stands below its point then: BoundFiles, MountedNodes, RomMount, VolumeMount; Mkfs: MkfsKeeping
 // - Umount: Unmounting, Vacating, MountRemoval, UmountKeeping; Shutdown: Resting, RootRemoval, ShutdownKeeping
 // - of one file: WorldKeeping; every step and every list of steps: WorldSteps; the start: Opening
 

@@ -283,7 +283,7 @@ live-within lives place volume cell h = by (slice_index_or lives place None) ref
     by None e k = absurd (no-cell volume cell (sym (ap backing_of e) ∙ k))
     by (Some life) e k = some-within lives place life e
 
-not-one : (b : Bool) → one_if b ≡ 0 → b ≡ false
+pub not-one : (b : Bool) → one_if b ≡ 0 → b ≡ false
 not-one true h = absurd (omega (arith, h))
 not-one false h = refl
 

@@ -47,7 +47,7 @@ use Rattle.world_laws.proofs.steps.MoveKeeping.{plain-folder, within-or-not}
 use Rattle.world_laws.proofs.steps.NameKeeping.{not-root}
 use Rattle.world_laws.proofs.lists.Passing.{refuse-passed, then-first, then-rest}
 use Rattle.world_laws.proofs.parts.Points.{point-covers}
-use Rattle.world_laws.proofs.steps.RomFiles.{Shown}
+use Rattle.world_laws.proofs.steps.BoundFiles.{Shown, coming-start}
 use Rattle.world_laws.proofs.parts.Standing.{IsUsed, Nothing, Stands}
 use Rattle.world_laws.proofs.parts.Taking.{boxes-all}
 
@@ -205,13 +205,6 @@ module _ (n : Namespace) (mount : Mount) (s : Stands Nothing n) (may : MayMount 
   unfolding add_mount
   added = ap (λ b. fold (adds mount) (record { next = b; changes = [] }) (content_of n mount.fs mount.source)) (sym begins-empty)
 
-  -- the files of a rom that is mounted have its bytes
-  pub added-shown : (v : WorldState) → length v.files ≡ 1024 →
-      Shown (fold change_row v (add_mount n mount).changes) (all.last) (all.final) (kind_of mount.fs) (content_of n mount.fs mount.source)
-  added-shown v l =
-      subst (λ r. Shown (fold change_row v r.changes) (all.last) (all.final) (kind_of mount.fs) (content_of n mount.fs mount.source)) (sym added)
-      (all.shown v l (λ p place at h. absurd (cc)))
-
   -- what the mount was filled with has the shape of its content
   pub added-shape : (p : Path) → node_shape (value_at path_cmp p (all.final)) ≡ content_shape (value_at path_cmp p (content_of n mount.fs mount.source))
   added-shape = all.fill.shape
@@ -240,6 +233,13 @@ module _ (n : Namespace) (mount : Mount) (s : Stands Nothing n) (may : MayMount 
   base-agrees fs.Rom v a = agrees-beside v n (with_one n mount) (refl, refl, refl, refl) a
   base-agrees fs.Dev v a = agrees-beside v n (with_one n mount) (refl, refl, refl, refl) a
   base-agrees fs.Cell v a = agrees-named v (with_one n mount) (volume_named n mount.source) [] (agrees-beside v n (with_one n mount) (refl, refl, refl, refl) a)
+
+  -- each file of the mount is what it begins with
+  pub added-shown : (v : WorldState) → Agrees v n →
+      Shown v (fold change_row v (add_mount n mount).changes) (all.last) (all.final) (kind_of mount.fs) (content_of n mount.fs mount.source)
+  added-shown v a =
+      subst (λ r. Shown v (fold change_row v r.changes) (all.last) (all.final) (kind_of mount.fs) (content_of n mount.fs mount.source)) (sym added)
+      (all.shown v v (base-agrees mount.fs v a) (coming-start v (content_of n mount.fs mount.source)) (λ p begins h. absurd (cc)))
 
   pub added-kept : Keeps n (add_mount n mount).next (add_mount n mount).changes
   added-kept = record {

@@ -38,8 +38,9 @@ use Rattle.vfs_model.specs.declared.world.WorldState.{WorldState}
 use Rattle.world_laws.proofs.steps.FillAll.{adds}
 use Rattle.world_laws.proofs.steps.Filling.{content_shape, node_shape, shape-none}
 use Rattle.world_laws.proofs.lists.Lists.{equal-is}
-use Rattle.world_laws.proofs.steps.MountEnd.{MayBegin, added-node, added-shape, added-shown, all, may-begin, new_mount}
-use Rattle.world_laws.proofs.steps.RomFiles.{changed-files, changed-namespace}
+use Rattle.world_laws.proofs.steps.MountEnd.{MayBegin, added-kept, added-node, added-shape, added-shown, all, may-begin, new_mount}
+use Rattle.vfs_model.proofs.Rests.{changed-namespace}
+use Rattle.world_laws.proofs.parts.HomesKeeping.{agrees-of}
 use Rattle.world_laws.proofs.parts.Standing.{Nothing, Stands, stands-of}
 use Rattle.world_laws.specs.Mounted.{MountedRomShowsItsFiles, ShowsNode, rom_nodes}
 
@@ -86,7 +87,7 @@ below-root : (tree : Tree) (p : Path) → p ≢ [] → node_in tree p ≡ value_
 below-root tree [] h = absurd (h refl)
 below-root tree (name ∷ names) h = refl
 
-module _ (w : WorldState) (path : Path) (source : List ℕ) (p : Path) (s : Stands Nothing w.namespace) (some : p ≢ []) (files : length w.files ≡ 1024)
+module _ (w : WorldState) (path : Path) (source : List ℕ) (p : Path) (c : IsConsistent w) (s : Stands Nothing w.namespace) (some : p ≢ [])
     (begin : MayBegin w.namespace (new_mount w.namespace path fs.Rom source)) where
   abbrev mount : Mount
   mount = new_mount w.namespace path fs.Rom source
@@ -121,11 +122,11 @@ module _ (w : WorldState) (path : Path) (source : List ℕ) (p : Path) (s : Stan
   shows None e = there ∙ shape-none mount (value_at path_cmp p final) (shape ∙ ap content_shape (has None e))
   shows (Some rom.Dir) e = there ∙ shape-folder (value_at path_cmp p final) (shape ∙ ap content_shape (has (Some rom.Dir) e))
   shows (Some (rom.File bytes)) e =
-      let held = added-shown w.namespace mount s begin.may begin.taken begin.room begin.away start files p place p (has (Some (rom.File bytes)) e) in (
+      let kept = added-kept w.namespace mount s begin.may begin.taken begin.room begin.away in
+      let held = added-shown w.namespace mount s begin.may begin.taken begin.room begin.away start (agrees-of w rows.next c kept.pages) p (origin.Rom place p) (has (Some (rom.File bytes)) e) in (
         held.id,
         there ∙ held.there,
-        ap bytes_of held.bytes
-            ∙ ap (λ n. rom_node_bytes (value_at path_cmp p (slice_index_or n.roms place no_rom).nodes)) (changed-namespace rows.changes start)
+        ap bytes_of held.is
             ∙ ap (λ roms. rom_node_bytes (value_at path_cmp p (slice_index_or roms place no_rom).nodes)) (added-roms w.namespace path source)
             ∙ ap rom_node_bytes e,
       )
@@ -142,7 +143,7 @@ module _ (w : WorldState) (source type_text : List ℕ) (point_text : List ℕ) 
       Shows (r >> done (add_mount w.namespace (new_mount w.namespace path fs.Rom source)))
   refused-or-shown (Ok passed) h e =
       let s = stands-of w c in
-      shows w path source p s some c.sizes.files (may-begin w.namespace path fs.Rom source s h) (value_at path_cmp p (rom_nodes w.namespace source)) refl
+      shows w path source p c s some (may-begin w.namespace path fs.Rom source s h) (value_at path_cmp p (rom_nodes w.namespace source)) refl
   refused-or-shown (Err errno) h e = absurd (cc)
 
   mounted : (k : ℕ) → asked_path w.namespace k point_text ≡ Ok path → fs_type_of type_text ≡ Some fs.Rom →
