@@ -9,6 +9,7 @@ pub mod MkfsKeeping
 pub mod MountEnd
 pub mod MountKeeping
 pub mod MountRemoval
+pub mod MountedNodes
 pub mod MoveKeeping
 pub mod NameKeeping
 pub mod OpenKeeping
@@ -22,5 +23,6 @@ pub mod StepKeeping
 pub mod UmountKeeping
 pub mod Unmounting
 pub mod Vacating
+pub mod VolumeMount
 pub mod WorldKeeping
 pub mod WorldSteps

@@ -1,4 +1,4 @@
--- What a mounted rom shows.
+-- What a mounted rom and a mounted volume show.
 use Rattle.std.specs.Prelude.{◌≡◌, ◌≢◌, ℕ, Option, Some, None, List, [], ◌++◌, Ok, slice_index_or}
 use Rattle.std.specs.FinMap.Entries.{find as value_at}
 use Rattle.vfs_base.specs.Path.{Path, path_cmp}
@@ -13,12 +13,16 @@ use Rattle.vfs_base.specs.declared.reply.Reply.TheVariants as reply
 use Rattle.vfs_base.specs.declared.step.Step.TheVariants as step
 use Rattle.vfs_model.specs.Boxes.{IsConsistent}
 use Rattle.vfs_model.specs.Content.{fs_type_of, no_rom, rom_at}
-use Rattle.vfs_model.specs.Homes.{bytes_of, file_at}
+use Rattle.vfs_model.specs.FileLife.{volume_at, volume_named}
+use Rattle.vfs_model.specs.Homes.{bytes_of, cell_bytes, file_at}
 use Rattle.vfs_model.specs.Lookup.{asked_path, node_at}
 use Rattle.vfs_model.specs.World.{world_step}
+use Rattle.vfs_model.specs.declared.namespace.KeptNode.{KeptNode}
+use Rattle.vfs_model.specs.declared.namespace.KeptNode.TheVariants as kept
 use Rattle.vfs_model.specs.declared.namespace.Namespace.{Namespace}
 use Rattle.vfs_model.specs.declared.namespace.RomNode.{RomNode}
 use Rattle.vfs_model.specs.declared.namespace.RomNode.TheVariants as rom
+use Rattle.vfs_model.specs.declared.world.Homes.{Homes}
 use Rattle.vfs_model.specs.declared.world.WorldState.{WorldState}
 
 -- what a rom has at a path stands there: nothing, a folder, or a file of the rom's bytes
@@ -37,4 +41,24 @@ MountedRomShowsItsFiles = (w : WorldState) (k : ℕ) (source point_text type_tex
     asked_path w.namespace k point_text ≡ Ok path → fs_type_of type_text ≡ Some fs.Rom →
     (world_step w (who.Session k) (step.Mount source point_text type_text) mark.Clear).reply ≡ reply.Done → p ≢ [] →
     ShowsNode (world_step w (who.Session k) (step.Mount source point_text type_text) mark.Clear).next (value_at path_cmp p (rom_nodes w.namespace source))
+    (node_at (world_step w (who.Session k) (step.Mount source point_text type_text) mark.Clear).next.namespace (path ++ p))
+
+-- what a volume keeps at a path stands there: nothing, a folder, or a file of the bytes that lay on its cell
+abbrev pub ShowsKept : Homes → ℕ → WorldState → Option KeptNode → Option NodeKind → Type 0
+ShowsKept homes volume v None found = found ≡ None
+ShowsKept homes volume v (Some kept.Dir) found = found ≡ Some node.Dir
+ShowsKept homes volume v (Some (kept.File cell)) found =
+    (id : FileId) × (found ≡ Some (node.File id kind.Cell)) × (bytes_of (file_at v id.row) ≡ cell_bytes homes volume cell)
+
+-- what the volume of this name keeps at each path
+abbrev pub kept_names : Namespace → List ℕ → List (Path × KeptNode)
+kept_names n source = (volume_at n (volume_named n source)).kept
+
+-- below the point of a volume that was mounted stands what the volume kept, and nothing else
+abbrev pub MountedVolumeShowsItsFiles : Type 0
+MountedVolumeShowsItsFiles = (w : WorldState) (k : ℕ) (source point_text type_text : List ℕ) (path p : Path) → IsConsistent w →
+    asked_path w.namespace k point_text ≡ Ok path → fs_type_of type_text ≡ Some fs.Cell →
+    (world_step w (who.Session k) (step.Mount source point_text type_text) mark.Clear).reply ≡ reply.Done → p ≢ [] →
+    ShowsKept w.homes (volume_named w.namespace source) (world_step w (who.Session k) (step.Mount source point_text type_text) mark.Clear).next
+    (value_at path_cmp p (kept_names w.namespace source))
     (node_at (world_step w (who.Session k) (step.Mount source point_text type_text) mark.Clear).next.namespace (path ++ p))

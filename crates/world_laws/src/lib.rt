@@ -22,7 +22,7 @@
 // - Umount: Unmounting, Vacating, MountRemoval, UmountKeeping; Shutdown: Resting, RootRemoval, ShutdownKeeping
 // - of one file: WorldKeeping; every step and every list of steps: WorldSteps; the start: Opening
 
-ghost use Rattle.world_laws.specs.Mounted.{MountedRomShowsItsFiles};
+ghost use Rattle.world_laws.specs.Mounted.{MountedRomShowsItsFiles, MountedVolumeShowsItsFiles};
 ghost use Rattle.world_laws.specs.Keeping.{AskedMayBeTaken, FileStepsKeepConsistency, OpeningIsConsistent, RunsKeepConsistency, StepsKeepConsistency};
 
 /// The world at the start of every script is consistent, whatever devices there are: the roms of a script are trees.
@@ -53,4 +53,9 @@ pub fn runs_keep_consistency()
 /// Below the point of a rom that was mounted stands what the rom has, with its bytes, and nothing else.
 pub fn mounted_rom_shows_its_files()
     ensures { MountedRomShowsItsFiles }
+{}
+
+/// Below the point of a volume that was mounted stands what the volume kept, with the bytes that lay on its cells, and nothing else.
+pub fn mounted_volume_shows_its_files()
+    ensures { MountedVolumeShowsItsFiles }
 {}
