@@ -5,6 +5,7 @@ pub mod FileKeepingSteps
 pub mod FillAll
 pub mod Filling
 pub mod Keeping
+pub mod KeptBytes
 pub mod MkfsKeeping
 pub mod MountEnd
 pub mod MountKeeping

@@ -71,7 +71,7 @@ no-rows p (r ∷ rows) h =
     let later = no-rows p rows (λ row i. h row (inr i)) in
     omega (arith, all, first, later)
 
-above-in : (r row : ℕ) (rows : List ℕ) → AllAbove r rows → InRows rows row → r < row
+pub above-in : (r row : ℕ) (rows : List ℕ) → AllAbove r rows → InRows rows row → r < row
 above-in r row [] above i = absurd i
 above-in r row (x ∷ rows) above (inl e) = subst (λ k. r < k) (sym e) above.0
 above-in r row (x ∷ rows) above (inr i) = above-in r row rows above.1 i
@@ -150,7 +150,7 @@ module _ (n : Namespace) (mount : Mount) (s : Stands Nothing n) (may : MayLeave 
       ])
 
   -- two live files on one cell are one
-  same-cell : (volume cell a b : ℕ) → volume < length n.volumes → cell < length (volume_at n volume).pages → 0 < a → 0 < b → a - 1 < 1024 → b - 1 < 1024 →
+  pub same-cell : (volume cell a b : ℕ) → volume < length n.volumes → cell < length (volume_at n volume).pages → 0 < a → 0 < b → a - 1 < 1024 → b - 1 < 1024 →
       is_backed_by (lies_on_cell volume cell) (life_at n a) ≡ true → is_backed_by (lies_on_cell volume cell) (life_at n b) ≡ true → a ≡ b
   same-cell volume cell a b v c l m small less h k =
       let placed = s.boxes.cells volume cell v c in
