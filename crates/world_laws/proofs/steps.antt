@@ -25,5 +25,6 @@ pub mod UmountKeeping
 pub mod Unmounting
 pub mod Vacating
 pub mod VolumeMount
+pub mod VolumeUmount
 pub mod WorldKeeping
 pub mod WorldSteps

@@ -16,9 +16,11 @@ use Rattle.vfs_model.specs.Content.{fs_type_of, no_rom, rom_at}
 use Rattle.vfs_model.specs.FileLife.{volume_at, volume_named}
 use Rattle.vfs_model.specs.Homes.{bytes_of, cell_bytes, file_at}
 use Rattle.vfs_model.specs.Lookup.{asked_path, node_at}
+use Rattle.vfs_model.specs.UmountSteps.{mount_at_point}
 use Rattle.vfs_model.specs.World.{world_step}
 use Rattle.vfs_model.specs.declared.namespace.KeptNode.{KeptNode}
 use Rattle.vfs_model.specs.declared.namespace.KeptNode.TheVariants as kept
+use Rattle.vfs_model.specs.declared.namespace.Mount.{Mount}
 use Rattle.vfs_model.specs.declared.namespace.Namespace.{Namespace}
 use Rattle.vfs_model.specs.declared.namespace.RomNode.{RomNode}
 use Rattle.vfs_model.specs.declared.namespace.RomNode.TheVariants as rom
@@ -62,3 +64,26 @@ MountedVolumeShowsItsFiles = (w : WorldState) (k : ℕ) (source point_text type_
     ShowsKept w.homes (volume_named w.namespace source) (world_step w (who.Session k) (step.Mount source point_text type_text) mark.Clear).next
     (value_at path_cmp p (kept_names w.namespace source))
     (node_at (world_step w (who.Session k) (step.Mount source point_text type_text) mark.Clear).next.namespace (path ++ p))
+
+-- a volume keeps what stood somewhere: nothing, a folder, or a file on a cell, on which its bytes lie
+abbrev pub KeepsNode : WorldState → Option NodeKind → Homes → ℕ → Option KeptNode → Type 0
+KeepsNode w None homes volume name = name ≡ None
+KeepsNode w (Some node.Dir) homes volume name = name ≡ Some kept.Dir
+KeepsNode w (Some (node.File id shape)) homes volume name =
+    (shape ≡ kind.Cell) × (cell : ℕ) × (name ≡ Some (kept.File cell)) × (cell_bytes homes volume cell ≡ bytes_of (file_at w id.row))
+
+-- what stood somewhere stands there now: nothing, a folder, or a file of the same kind and bytes, in this row or in another
+abbrev pub ShowsSame : WorldState → Option NodeKind → WorldState → Option NodeKind → Type 0
+ShowsSame w None v found = found ≡ None
+ShowsSame w (Some node.Dir) v found = found ≡ Some node.Dir
+ShowsSame w (Some (node.File id shape)) v found =
+    (other : FileId) × (found ≡ Some (node.File other shape)) × (bytes_of (file_at v other.row) ≡ bytes_of (file_at w id.row))
+
+-- A volume that is unmounted and mounted again, at the same path or at another, shows the same files.
+abbrev pub RemountedVolumeShowsItsFiles : Type 0
+RemountedVolumeShowsItsFiles = (w : WorldState) (k j : ℕ) (point_text again_text type_text : List ℕ) (mount : Mount) (path again p : Path) → IsConsistent w →
+    asked_path w.namespace k point_text ≡ Ok path → mount_at_point w.namespace path ≡ Some mount → mount.fs ≡ fs.Cell →
+    let left = world_step w (who.Session k) (step.Umount point_text) mark.Clear in left.reply ≡ reply.Done →
+    asked_path left.next.namespace j again_text ≡ Ok again → fs_type_of type_text ≡ Some fs.Cell →
+    let back = world_step left.next (who.Session j) (step.Mount mount.source again_text type_text) mark.Clear in back.reply ≡ reply.Done →
+    ShowsSame w (node_at w.namespace (path ++ p)) back.next (node_at back.next.namespace (again ++ p))

@@ -130,20 +130,23 @@ no-bytes : (bytes : List ℕ) → length bytes ≤ 0 → bytes ≡ []
 no-bytes [] l = refl
 no-bytes (b ∷ bytes) l = absurd (omega (arith, l))
 
+-- the world that a mount leaves
+abbrev pub unmounted_world : WorldState → Mount → WorldState
+unmounted_world w mount =
+    let rows = remove_mount (record { next = w.namespace; changes = [] }) mount in
+    fold change_row (record w { namespace = rows.next }) rows.changes
+
 module _ (w : WorldState) (mount : Mount) (c : IsConsistent w) (may : MayLeave w.namespace mount) where
   s : Stands Nothing w.namespace
   s = stands-of w c
 
-  -- the world that the mount leaves
   abbrev left : WorldState
-  left =
-      let rows = remove_mount (record { next = w.namespace; changes = [] }) mount in
-      fold change_row (record w { namespace = rows.next }) rows.changes
+  left = unmounted_world w mount
 
-  pub left-keeps : Keeps w.namespace (remove_mount (record { next = w.namespace; changes = [] }) mount).next (remove_mount (record { next = w.namespace; changes = [] }) mount).changes
+  left-keeps : Keeps w.namespace (remove_mount (record { next = w.namespace; changes = [] }) mount).next (remove_mount (record { next = w.namespace; changes = [] }) mount).changes
   left-keeps = let out = removal w.namespace mount [] s may in record { stands = out.stands; pages = out.pages; files = λ v a. out.files v a }
 
-  pub left-consistent : IsConsistent left
+  pub left-consistent : IsConsistent (unmounted_world w mount)
   left-consistent =
       let rows = remove_mount (record { next = w.namespace; changes = [] }) mount in
       changed-consistent w rows.next rows.changes c left-keeps
@@ -158,7 +161,7 @@ module _ (w : WorldState) (mount : Mount) (c : IsConsistent w) (may : MayLeave w
 
   -- the bytes of a file of the mount lie on its cell then
   pub bytes-kept : (row volume cell : ℕ) → InRows (rows_of_mount w.namespace mount.number) row → backing_of (life_at w.namespace row) ≡ backing.Cell volume cell →
-      cell_bytes left.homes volume cell ≡ bytes_of (file_at w row)
+      cell_bytes (unmounted_world w mount).homes volume cell ≡ bytes_of (file_at w row)
   bytes-kept row volume cell i own = elim (below-or-past volume (length w.namespace.volumes)) [
     | inr past ↦ neither (no-room w.namespace volume cell (inl past))
     | inl within ↦ elim (below-or-past cell (length (volume_at w.namespace volume).pages)) [

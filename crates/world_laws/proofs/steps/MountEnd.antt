@@ -296,6 +296,7 @@ free-number n l = elim (below-or-past (least_free_mount n) 16) [
 -- what a mount needs to begin, where none of its refusals holds
 pub record MayBegin (n : Namespace) (mount : Mount) : Type 0 where
   pub may : MayMount n mount
+  pub sourced : is_without_source n mount.fs mount.source ≡ false
   pub taken : is_taken n mount.fs mount.source ≡ false
   pub room : file_count (content_of n mount.fs mount.source) ≤ free_count n
   pub away : (k : ℕ) → is_prefix mount.point (folder_of n k) ≡ false
@@ -339,6 +340,7 @@ may-begin n path asked source s h =
         small = number.0;
         room = omega (arith, fewer);
       };
+      sourced = nor-first (is_without_source n asked source) _ (refuse-passed errno.ENXIO without (then-first (refuse errno.ENXIO when without) _ tt r6));
       taken = taken;
       room = ltb-false (free_count n) (file_count (content_of n asked source)) room;
       away = λ j. within-or-not n path j (not-root n path s.working_directories unpointed) away;

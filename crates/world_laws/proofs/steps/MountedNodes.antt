@@ -70,6 +70,15 @@ mounted_world w path asked source =
     let rows = add_mount w.namespace (new_mount w.namespace path asked source) in
     fold change_row (record w { namespace = rows.next }) rows.changes
 
+-- the root of the new mount is a folder
+pub root-there : (w : WorldState) (path : Path) (asked : FsType) (source : List ℕ) → IsConsistent w → MayBegin w.namespace (new_mount w.namespace path asked source) →
+    node_at (mounted_world w path asked source).namespace (path ++ []) ≡ Some node.Dir
+root-there w path asked source c begin =
+    let mount = new_mount w.namespace path asked source in
+    let rows = add_mount w.namespace mount in
+    ap (λ n. node_at n (path ++ [])) (changed-namespace rows.changes (record w { namespace = rows.next }))
+    ∙ added-node w.namespace mount (stands-of w c) begin.may begin.taken begin.room begin.away []
+
 module _ (w : WorldState) (path : Path) (asked : FsType) (source : List ℕ) (p : Path) (c : IsConsistent w) (some : p ≢ [])
     (begin : MayBegin w.namespace (new_mount w.namespace path asked source)) where
   s : Stands Nothing w.namespace
