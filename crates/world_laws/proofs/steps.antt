@@ -15,6 +15,7 @@ pub mod MoveKeeping
 pub mod NameKeeping
 pub mod OpenKeeping
 pub mod Opening
+pub mod Remounting
 pub mod Renaming
 pub mod Resting
 pub mod RomMount

@@ -18,11 +18,12 @@
 //
 // `steps`: Keeping says what a step keeps, and StepKeeping has a case for each.
 // - on names: NameKeeping; Open: OpenKeeping; Close, Map, Unmap: FileKeepingSteps; Rename: Renaming, MoveKeeping
-// - Mount: Adding, MountKeeping, Filling, FillAll, MountEnd; what stands below its point then: BoundFiles, MountedNodes, RomMount, VolumeMount; Mkfs: MkfsKeeping
-// - Umount: Unmounting, Vacating, MountRemoval, UmountKeeping; Shutdown: Resting, RootRemoval, ShutdownKeeping
+// - Mount: Adding, MountKeeping, Filling, BoundFiles, FillAll, MountEnd; what stands below its point then: MountedNodes, RomMount, VolumeMount
+// - Umount: Unmounting, Vacating, MountRemoval, UmountKeeping; what a volume keeps then: KeptBytes, VolumeUmount; both one after the other: Remounting
+// - Mkfs: MkfsKeeping; Shutdown: Resting, RootRemoval, ShutdownKeeping
 // - of one file: WorldKeeping; every step and every list of steps: WorldSteps; the start: Opening
 
-ghost use Rattle.world_laws.specs.Mounted.{MountedRomShowsItsFiles, MountedVolumeShowsItsFiles};
+ghost use Rattle.world_laws.specs.Mounted.{MountedRomShowsItsFiles, MountedVolumeShowsItsFiles, RemountedVolumeShowsItsFiles, UnmountedVolumeKeepsItsFiles};
 ghost use Rattle.world_laws.specs.Keeping.{AskedMayBeTaken, FileStepsKeepConsistency, OpeningIsConsistent, RunsKeepConsistency, StepsKeepConsistency};
 
 /// The world at the start of every script is consistent, whatever devices there are: the roms of a script are trees.
@@ -58,4 +59,14 @@ pub fn mounted_rom_shows_its_files()
 /// Below the point of a volume that was mounted stands what the volume kept, with the bytes that lay on its cells, and nothing else.
 pub fn mounted_volume_shows_its_files()
     ensures { MountedVolumeShowsItsFiles }
+{}
+
+/// After a volume was unmounted it keeps what stood below the point: each folder, and each file with its bytes on a cell.
+pub fn unmounted_volume_keeps_its_files()
+    ensures { UnmountedVolumeKeepsItsFiles }
+{}
+
+/// A volume that is unmounted and mounted again, at the same path or at another, shows the same folders and the same files, with the same bytes.
+pub fn remounted_volume_shows_its_files()
+    ensures { RemountedVolumeShowsItsFiles }
 {}
