@@ -3,6 +3,7 @@ pub mod Adding
 pub mod BoundFiles
 pub mod FileKeepingSteps
 pub mod FillAll
+pub mod FillApart
 pub mod Filling
 pub mod Keeping
 pub mod KeptBytes

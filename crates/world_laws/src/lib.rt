@@ -18,7 +18,7 @@
 //
 // `steps`: Keeping says what a step keeps, and StepKeeping has a case for each.
 // - on names: NameKeeping; Open: OpenKeeping; Close, Map, Unmap: FileKeepingSteps; Rename: Renaming, MoveKeeping
-// - Mount: Adding, MountKeeping, Filling, BoundFiles, FillAll, MountEnd; what stands below its point then: MountedNodes, RomMount, VolumeMount
+// - Mount: Adding, MountKeeping, Filling, BoundFiles, FillApart, FillAll, MountEnd; what stands below its point then: MountedNodes, RomMount, VolumeMount
 // - Umount: Unmounting, Vacating, MountRemoval, UmountKeeping; what a volume keeps then: KeptBytes, VolumeUmount; both one after the other: Remounting
 // - Mkfs: MkfsKeeping; Shutdown: Resting, RootRemoval, ShutdownKeeping
 // - of one file: WorldKeeping; every step and every list of steps: WorldSteps; the start: Opening

@@ -1,7 +1,5 @@
 -- A mount that is filled: each file that was bound has what it began with.
-use Rattle.std.proofs.Common.{◌≡◌, ◌≢◌, ℕ, ◌+◌, ◌-◌, ◌<◌, Bool, true, false, cond, Option, Some, None, is_some, List, [], ◌∷◌, ◌++◌, length, fold, slice_index_or, slice_set, inl, inr, refl, sym, ap, subst, ◌∙◌, arith}
-use Rattle.std.proofs.lemmas.List.{length-set}
-use Rattle.std.proofs.lemmas.List.Sums.{fold-append}
+use Rattle.std.proofs.Common.{◌≡◌, ◌≢◌, ℕ, ◌+◌, ◌-◌, ◌<◌, Bool, true, false, cond, Option, Some, None, is_some, [], ◌∷◌, ◌++◌, length, slice_index_or, inl, inr, refl, sym, ap, subst, ◌∙◌, arith}
 use Rattle.std.specs.FinMap.Entries.{find as value_at, find-append, put}
 use Rattle.std.specs.Ordering.{eq_by_cmp}
 use Rattle.vfs_base.specs.Path.{Path, path_cmp}
@@ -9,20 +7,17 @@ use Rattle.vfs_base.specs.PathLaws.{path_cmp_exact, path_cmp_total}
 use Rattle.vfs_base.specs.declared.ids.FileId.{FileId}
 use Rattle.vfs_base.specs.declared.kinds.Kind.{Kind}
 use Rattle.vfs_base.specs.declared.kinds.Kind.TheVariants as kind
-use Rattle.vfs_base.specs.declared.kinds.NodeKind.{NodeKind}
 use Rattle.vfs_base.specs.declared.kinds.NodeKind.TheVariants as node
 use Rattle.vfs_model.proofs.Trees.{at-put-here, at-put-other}
 use Rattle.vfs_model.specs.Content.{Content}
-use Rattle.vfs_model.specs.FileLife.{after_taking, bind_row, next_file}
-use Rattle.vfs_model.specs.Homes.{bound_file, cell_bytes, cell_capacity, change_row, file_at, no_home}
+use Rattle.vfs_model.specs.FileLife.{bind_row, next_file}
+use Rattle.vfs_model.specs.Homes.{bound_file, cell_capacity, change_row, file_at, no_home}
 use Rattle.vfs_model.specs.Namespace.{Tree, generation_at, life_at}
 use Rattle.vfs_model.specs.declared.namespace.LiveFile.{LiveFile}
 use Rattle.vfs_model.specs.declared.namespace.Namespace.{Namespace}
 use Rattle.vfs_model.specs.declared.namespace.Origin.{Origin}
 use Rattle.vfs_model.specs.declared.namespace.Origin.TheVariants as origin
-use Rattle.vfs_model.specs.declared.namespace.RowChange.{RowChange}
 use Rattle.vfs_model.specs.declared.namespace.RowChange.TheVariants as change
-use Rattle.vfs_model.specs.declared.world.FileState.{FileState}
 use Rattle.vfs_model.specs.declared.world.FileState.TheVariants as file
 use Rattle.vfs_model.specs.declared.world.Homes.{Homes}
 use Rattle.vfs_model.specs.declared.world.WorldState.{WorldState}

@@ -25,7 +25,8 @@ use Rattle.vfs_model.specs.declared.namespace.RowChange.TheVariants as change
 use Rattle.vfs_model.specs.declared.world.WorldState.{WorldState}
 use Rattle.world_laws.proofs.parts.Agreeing.{Agrees, IsNewSpare, bind-agrees}
 use Rattle.world_laws.proofs.parts.Binding.{next_generations}
-use Rattle.world_laws.proofs.steps.Filling.{Fill, FitsOrigin, begins-fit, fill-apart, fill-file, fill-folder, life_of, not-behind}
+use Rattle.world_laws.proofs.steps.FillApart.{fill-apart}
+use Rattle.world_laws.proofs.steps.Filling.{Fill, FitsOrigin, begins-fit, fill-file, fill-folder, life_of, not-behind}
 use Rattle.world_laws.proofs.parts.FreeRows.{some-free}
 use Rattle.world_laws.proofs.parts.Growing.{tree-own}
 use Rattle.world_laws.proofs.steps.OpenKeeping.{taken-pages}

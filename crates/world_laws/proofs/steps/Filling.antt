@@ -29,11 +29,7 @@ use Rattle.vfs_model.specs.declared.namespace.Mount.{Mount}
 use Rattle.vfs_model.specs.declared.namespace.Namespace.{Namespace}
 use Rattle.vfs_model.specs.declared.namespace.Origin.{Origin}
 use Rattle.vfs_model.specs.declared.namespace.Origin.TheVariants as origin
-use Rattle.vfs_model.specs.declared.world.Homes.{Homes}
 use Rattle.world_laws.proofs.parts.Agreeing.{Begins}
-use Rattle.world_laws.proofs.parts.AtHome.{AtHome}
-use Rattle.world_laws.proofs.parts.Emptying.{not-one}
-use Rattle.world_laws.proofs.steps.BoundFiles.{AllApart, Apart}
 use Rattle.world_laws.proofs.parts.Beside.{working_directories-beside}
 use Rattle.world_laws.proofs.parts.Binding.{Rest, alive-bound, apart-cell, but-taken, cells-bound, devices-same, devices-taken, live_files-set, live_files-taken, live-bound, next_generations, out-other, own-cell, rest-taken, some-life, this-or-other}
 use Rattle.world_laws.proofs.parts.FreeRows.{free_count, one-less, some-free}
@@ -116,7 +112,7 @@ module _ (mount : Mount) where
     pub working_directories : m.working_directories ≡ base.working_directories
     pub trees : m.trees ≡ base.trees
 
-  less-apart : (p q : Path) → T (is_lt (path_cmp p q)) → p ≢ q
+  pub less-apart : (p q : Path) → T (is_lt (path_cmp p q)) → p ≢ q
   less-apart p q l e = not-less (path_cmp p q) l (ap (λ x. path_cmp p x) (sym e) ∙ tied_itself path_cmp_total p)
     where
       not-less : (o : Ordering) → T (is_lt o) → o ≡ Equal → ⊥
@@ -152,7 +148,7 @@ module _ (mount : Mount) where
       (equal-false p e.0 (λ same. below-last e.0 p o behind left (t-first _ (is_sorted path_cmp (behind ++ (p, o) ∷ left)) h) (sym same)))
       ∙ not-behind p o behind left (t-second (below_all path_cmp e.0 (behind ++ (p, o) ∷ left)) _ h)
 
-  later-sorted : {X : Type 0} (behind left : List (Path × X)) → T (is_sorted path_cmp (behind ++ left)) → T (is_sorted path_cmp left)
+  pub later-sorted : {X : Type 0} (behind left : List (Path × X)) → T (is_sorted path_cmp (behind ++ left)) → T (is_sorted path_cmp left)
   later-sorted [] left h = h
   later-sorted (e ∷ behind) left h = later-sorted behind left (t-second (below_all path_cmp e.0 (behind ++ left)) _ h)
 
@@ -514,52 +510,3 @@ module _ (mount : Mount) where
         working_directories = same.2 ∙ f.working_directories;
         trees = same.3 ∙ f.trees;
       }
-
-  -- another file has neither the cell nor the device of this one
-  other-apart : (m : Namespace) (p q : Path) (begins other : Origin) (homes : Homes) → FitsOrigin m p begins → p ≢ q → FitsOrigin m q other →
-      ((volume cell : ℕ) → begins ≡ origin.Cell volume cell → volume < length homes.cells → cell < length (slice_index_or homes.cells volume []) → begins_on volume cell (Some other) ≡ false) →
-      Apart homes begins other
-  other-apart m p q begins origin.Empty homes f apart g none = tt
-  other-apart m p q begins (origin.Rom place path) homes f apart g none = tt
-  other-apart m p q begins (origin.NewCell volume cell) homes f apart g none = tt
-  other-apart m p q begins (origin.Cell volume cell) homes f apart g none = λ l k e.
-      let yes = own-cell volume cell in
-      let no = none volume cell e l k in
-      absurd (cc)
-  other-apart m p q begins (origin.Device device) homes f apart g none = λ e.
-      let own = subst (FitsOrigin m p) e f in
-      apart (own.3 ∙ sym g.3)
-
-  all-apart : (m : Namespace) (p : Path) (begins : Origin) (homes : Homes) (left : Content) → FitsOrigin m p begins → T (below_all path_cmp p left) → AllFit m left →
-      ((volume cell : ℕ) → begins ≡ origin.Cell volume cell → volume < length homes.cells → cell < length (slice_index_or homes.cells volume []) → pending left volume cell ≡ 0) →
-      AllApart homes begins left
-  all-apart m p begins homes [] f below fit none = tt
-  all-apart m p begins homes ((q, None) ∷ left) f below fit none =
-      all-apart m p begins homes left f (t-second (is_lt (path_cmp p q)) _ below) fit.1 (λ volume cell e l k.
-      let one : pending ((q, None) ∷ left) volume cell ≡ 0 + pending left volume cell = sum_by-cons (λ entry. one_if (begins_on volume cell entry.1)) (q, None) left in
-      let all = none volume cell e l k in
-      omega (arith, one, all))
-  all-apart m p begins homes ((q, Some other) ∷ left) f below fit none =
-      let counted : (volume cell : ℕ) → pending ((q, Some other) ∷ left) volume cell ≡ one_if (begins_on volume cell (Some other)) + pending left volume cell =
-      λ volume cell. sum_by-cons (λ entry. one_if (begins_on volume cell entry.1)) (q, Some other) left in (
-        other-apart m p q begins other homes f (less-apart p q (t-first _ (below_all path_cmp p left) below)) fit.0 (λ volume cell e l k.
-            let one = counted volume cell in
-            let all = none volume cell e l k in
-            not-one (begins_on volume cell (Some other)) (omega (arith, one, all))),
-        all-apart m p begins homes left f (t-second (is_lt (path_cmp p q)) _ below) fit.1 (λ volume cell e l k.
-            let one = counted volume cell in
-            let all = none volume cell e l k in
-            omega (arith, one, all)),
-      )
-
-  -- no file that is still to come begins with the cell or the device of the one that comes now
-  pub fill-apart : (base m : Namespace) (tree : Tree) (behind left : Content) (p : Path) (begins : Origin) → Fill base m tree behind ((p, Some begins) ∷ left) →
-      (homes : Homes) → AtHome homes m → AllApart homes begins left
-  fill-apart base m tree behind left p begins f = λ homes a.
-      all-apart m p begins homes left f.fit.0 (t-first _ (is_sorted path_cmp left) (later-sorted behind ((p, Some begins) ∷ left) f.order)) f.fit.1
-      (λ volume cell e l k.
-      let before = f.cells volume cell (subst (λ x. volume < x) a.volumes l) (subst (λ x. cell < x) (a.cells volume) k) in
-      let one : pending ((p, Some begins) ∷ left) volume cell ≡ one_if (lies_on_cell volume cell (origin_backing begins)) + pending left volume cell =
-      sum_by-cons (λ entry. one_if (begins_on volume cell entry.1)) (p, Some begins) left in
-      let own : one_if (lies_on_cell volume cell (origin_backing begins)) ≡ 1 = ap (λ o. one_if (lies_on_cell volume cell (origin_backing o))) e ∙ ap one_if (own-cell volume cell) in
-      omega (arith, before, one, own))

@@ -5,7 +5,7 @@ use Rattle.vfs_base.specs.declared.limits.TheConstants.{PAGE_SIZE}
 use Rattle.vfs_model.proofs.Rests.{changed-namespace}
 use Rattle.vfs_model.specs.Boxes.{IsConsistent}
 use Rattle.vfs_model.specs.FileLife.{after_end, backing_of, end_of_unmounted, free_row, no_volume, volume_at}
-use Rattle.vfs_model.specs.Homes.{bytes_of, cell_bytes, cell_capacity, change_row, file_at, homes_after_end, with_cell_bytes}
+use Rattle.vfs_model.specs.Homes.{bytes_of, cell_bytes, cell_capacity, change_row, file_at, homes_after_end}
 use Rattle.vfs_model.specs.Namespace.{file_of, generation_at, life_at}
 use Rattle.vfs_model.specs.UmountSteps.{remove_mount, rows_of_mount}
 use Rattle.vfs_model.specs.declared.namespace.Backing.{Backing}

@@ -26,7 +26,6 @@ use Rattle.vfs_model.specs.Homes.{cell_capacity, change_row}
 use Rattle.vfs_model.specs.Lookup.{asked_path, covering_mount, nearest, node_in, has_folder_within, has_mount_below, has_nodes, is_dir_node, is_file, is_point, is_prefix, is_there, node_at, walk_refusal, with_tree}
 use Rattle.vfs_model.specs.Laws.{with_mount}
 use Rattle.vfs_model.specs.MountStep.{add_mount, is_taken, is_without_source, least_free_mount, mount_at, mount_refusals, mount_step, without_kept}
-use Rattle.vfs_model.specs.NameSteps.{done}
 use Rattle.vfs_model.specs.Namespace.{all_mounts, folder_of, same_path, tree_of}
 use Rattle.vfs_model.specs.declared.namespace.Mount.{Mount}
 use Rattle.vfs_model.specs.OpenStep.{kind_of}

@@ -60,7 +60,8 @@ shape-folder None h = absurd (omega (arith, h))
 shape-folder (Some node.Dir) h = refl
 shape-folder (Some (node.File id kind)) h = absurd (omega (arith, h))
 
-below-root : (tree : Tree) (p : Path) → p ≢ [] → node_in tree p ≡ value_at path_cmp p tree
+-- below its root a tree has its nodes by path
+pub below-root : (tree : Tree) (p : Path) → p ≢ [] → node_in tree p ≡ value_at path_cmp p tree
 below-root tree [] h = absurd (h refl)
 below-root tree (name ∷ names) h = refl
 

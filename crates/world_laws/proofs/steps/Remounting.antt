@@ -1,12 +1,11 @@
 -- A volume that is unmounted and mounted again shows the same files.
-use Rattle.std.proofs.Common.{◌≡◌, ◌≢◌, ℕ, ◌<◌, not, ◌||◌, true, false, Bool, Option, Some, None, List, [], ◌∷◌, ◌++◌, length, Ok, refl, sym, ap, subst, ◌∙◌}
+use Rattle.std.proofs.Common.{◌≡◌, ℕ, ◌<◌, not, true, false, Bool, Option, Some, None, List, [], ◌∷◌, ◌++◌, length, Ok, refl, sym, ap, subst, ◌∙◌}
 use Rattle.std.specs.FinMap.Entries.{find as value_at}
 use Rattle.std.specs.List.{list_any}
 use Rattle.vfs_base.specs.Path.{Path, path_cmp}
 use Rattle.vfs_base.specs.declared.entry.Mark.TheVariants as mark
 use Rattle.vfs_base.specs.declared.entry.Who.TheVariants as who
 use Rattle.vfs_base.specs.declared.kinds.FsType.TheVariants as fs
-use Rattle.vfs_base.specs.declared.kinds.Kind.TheVariants as kind
 use Rattle.vfs_base.specs.declared.kinds.NodeKind.{NodeKind}
 use Rattle.vfs_base.specs.declared.kinds.NodeKind.TheVariants as node
 use Rattle.vfs_base.specs.declared.reply.Reply.TheVariants as reply
@@ -16,17 +15,16 @@ use Rattle.vfs_model.specs.Content.{fs_type_of}
 use Rattle.vfs_model.specs.FileLife.{no_volume, volume_named}
 use Rattle.vfs_model.specs.Lookup.{asked_path, node_at, node_in}
 use Rattle.vfs_model.specs.MountStep.{is_without_source}
-use Rattle.vfs_model.specs.Namespace.{Tree, same_bytes, tree_of}
+use Rattle.vfs_model.specs.Namespace.{same_bytes, tree_of}
 use Rattle.vfs_model.specs.World.{world_step}
 use Rattle.vfs_model.specs.declared.namespace.KeptNode.{KeptNode}
-use Rattle.vfs_model.specs.declared.namespace.KeptNode.TheVariants as kept
 use Rattle.vfs_model.specs.declared.namespace.Mount.{Mount}
 use Rattle.vfs_model.specs.declared.namespace.Namespace.{Namespace}
 use Rattle.vfs_model.specs.declared.world.Homes.{Homes}
 use Rattle.vfs_model.specs.declared.world.WorldState.{WorldState}
 use Rattle.world_laws.proofs.steps.KeptBytes.{left-consistent, unmounted_world}
 use Rattle.world_laws.proofs.steps.MountEnd.{MayBegin, new_mount}
-use Rattle.world_laws.proofs.steps.MountedNodes.{mounted_world, root-there, where-mounted}
+use Rattle.world_laws.proofs.steps.MountedNodes.{below-root, mounted_world, root-there, where-mounted}
 use Rattle.world_laws.proofs.steps.Unmounting.{MayLeave}
 use Rattle.world_laws.proofs.steps.VolumeMount.{shows-kept}
 use Rattle.world_laws.proofs.steps.VolumeUmount.{as-many, below-point, first-within, keeps-node, point-is, same-volume, where-unmounted}
@@ -39,10 +37,6 @@ volume-within n source h = first-within (λ volume. same_bytes volume.name sourc
     passed : (b : Bool) → not b ≡ false → b ≡ true
     passed true k = refl
     passed false k = absurd (cc)
-
-below-root : (tree : Tree) (p : Path) → p ≢ [] → node_in tree p ≡ value_at path_cmp p tree
-below-root tree [] h = absurd (h refl)
-below-root tree (name ∷ names) h = refl
 
 -- what a volume keeps of a node, and shows of what it keeps
 keeps-and-shows : (w v : WorldState) (homes : Homes) (volume : ℕ) (found : Option NodeKind) (name : Option KeptNode) (shown : Option NodeKind) →

@@ -1,5 +1,5 @@
 -- A volume that is unmounted keeps the folders and the files of its mount.
-use Rattle.std.proofs.Common.{◌≡◌, ◌≢◌, ℕ, ◌-◌, ◌<◌, Bool, true, false, Option, Some, None, option_map, IsSomeAnd, List, [], ◌∷◌, ◌++◌, length, drop, fold, slice_index_or, slice_set, Result, Ok, Err, inl, inr, refl, sym, ap, subst, ◌∙◌, arith}
+use Rattle.std.proofs.Common.{◌≡◌, ℕ, ◌-◌, ◌<◌, Bool, true, false, Option, Some, None, option_map, IsSomeAnd, List, [], ◌∷◌, ◌++◌, length, drop, fold, slice_index_or, slice_set, Result, Ok, inl, inr, refl, sym, ap, subst, ◌∙◌, arith}
 use Rattle.std.proofs.lemmas.List.{length-set}
 use Rattle.std.proofs.lemmas.List.Sums.{fails_before_first}
 use Rattle.std.specs.Cmp.Lexicographic.{bytes_decides, pointwise_decides}
@@ -23,10 +23,10 @@ use Rattle.vfs_model.proofs.MovedLaws.{prefix-append}
 use Rattle.vfs_model.proofs.Rests.{changed-namespace}
 use Rattle.vfs_model.specs.Boxes.{IsConsistent, fits_kind}
 use Rattle.vfs_model.specs.Chain.{◌>>=◌, ◌>>◌, refuse◌when◌, wanted}
-use Rattle.vfs_model.specs.Consistency.{fits_mount, same_kind}
+use Rattle.vfs_model.specs.Consistency.{same_kind}
 use Rattle.vfs_model.specs.FileLife.{Rows, after_end, backing_of, end_of_unmounted, free_row, no_volume, volume_at, volume_named}
 use Rattle.vfs_model.specs.Homes.{cell_bytes}
-use Rattle.vfs_model.specs.Lookup.{asked_path, covering_mount, has_mount_below, is_below, is_prefix, node_at, node_in, rest_of}
+use Rattle.vfs_model.specs.Lookup.{asked_path, covering_mount, has_mount_below, is_below, node_at, node_in}
 use Rattle.vfs_model.specs.NameSteps.{done}
 use Rattle.vfs_model.specs.Namespace.{all_mounts, life_at, same_bytes, same_path, tree_of}
 use Rattle.vfs_model.specs.NamespaceOutcome.{NamespaceOutcome, settled}
@@ -36,11 +36,9 @@ use Rattle.vfs_model.specs.UmountSteps.{cell_of, is_busy, kept_node, mount_at_po
 use Rattle.vfs_model.specs.World.{namespace_part, world_step}
 use Rattle.vfs_model.specs.declared.namespace.Backing.{Backing}
 use Rattle.vfs_model.specs.declared.namespace.Backing.TheVariants as backing
-use Rattle.vfs_model.specs.declared.namespace.KeptNode.TheVariants as kept
 use Rattle.vfs_model.specs.declared.namespace.LiveFile.{LiveFile}
 use Rattle.vfs_model.specs.declared.namespace.Mount.{Mount}
 use Rattle.vfs_model.specs.declared.namespace.Namespace.{Namespace}
-use Rattle.vfs_model.specs.declared.namespace.VolumeState.{VolumeState}
 use Rattle.vfs_model.specs.declared.world.WorldState.{WorldState}
 use Rattle.world_laws.proofs.lists.Lists.{any-place, below-or-past, no-place}
 use Rattle.world_laws.proofs.lists.Passing.{and-first}
@@ -124,9 +122,6 @@ module _ (w : WorldState) (mount : Mount) (c : IsConsistent w) (may : MayLeave w
   below-point p =
       ap (λ m. node_in (tree_of w.namespace m.number) (drop (length m.point) (mount.point ++ p))) (covers-below p)
       ∙ ap (node_in (tree_of w.namespace mount.number)) (drop-front mount.point p)
-
-  abbrev gone : Namespace
-  gone = (remove_mount (record { next = w.namespace; changes = [] }) mount).next
 
   volumes-left : (unmounted_world w mount).namespace.volumes ≡ (left_by w.namespace mount mount.fs).volumes
   volumes-left =
