@@ -1,4 +1,4 @@
--- What a mounted rom and a mounted volume show.
+-- What a mounted rom and a mounted volume show, and what a volume keeps that is unmounted.
 use Rattle.std.specs.Prelude.{◌≡◌, ◌≢◌, ℕ, false, Option, Some, None, List, [], ◌++◌, Ok, slice_index_or}
 use Rattle.std.specs.FinMap.Entries.{find as value_at}
 use Rattle.vfs_base.specs.Path.{Path, path_cmp}
@@ -73,7 +73,7 @@ KeepsNode w (Some node.Dir) homes volume name = name ≡ Some kept.Dir
 KeepsNode w (Some (node.File id shape)) homes volume name =
     (shape ≡ kind.Cell) × (cell : ℕ) × (name ≡ Some (kept.File cell)) × (cell_bytes homes volume cell ≡ bytes_of (file_at w id.row))
 
--- a volume of the mount's name keeps what stood below the point of the mount when it went, and nothing else
+-- where the source of a mount is a volume, the volume keeps what stood below the point of the mount when it went, and nothing else
 abbrev pub UnmountedVolumeKeepsItsFiles : Type 0
 UnmountedVolumeKeepsItsFiles = (w : WorldState) (k : ℕ) (point_text : List ℕ) (mount : Mount) (path p : Path) → IsConsistent w →
     asked_path w.namespace k point_text ≡ Ok path → mount_at_point w.namespace path ≡ Some mount → mount.fs ≡ fs.Cell → is_without_source w.namespace fs.Cell mount.source ≡ false →
@@ -87,7 +87,7 @@ ShowsSame w (Some node.Dir) v found = found ≡ Some node.Dir
 ShowsSame w (Some (node.File id shape)) v found =
     (other : FileId) × (found ≡ Some (node.File other shape)) × (bytes_of (file_at v other.row) ≡ bytes_of (file_at w id.row))
 
--- A volume that is unmounted and mounted again, at the same path or at another, shows the same files.
+-- a volume that is unmounted and mounted again, by whatever session and at whatever path, shows the same files, and nothing else
 abbrev pub RemountedVolumeShowsItsFiles : Type 0
 RemountedVolumeShowsItsFiles = (w : WorldState) (k j : ℕ) (point_text again_text type_text : List ℕ) (mount : Mount) (path again p : Path) → IsConsistent w →
     asked_path w.namespace k point_text ≡ Ok path → mount_at_point w.namespace path ≡ Some mount → mount.fs ≡ fs.Cell →

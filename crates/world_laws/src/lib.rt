@@ -61,7 +61,7 @@ pub fn mounted_volume_shows_its_files()
     ensures { MountedVolumeShowsItsFiles }
 {}
 
-/// After a volume was unmounted it keeps what stood below the point: each folder, and each file with its bytes on a cell.
+/// A volume that was unmounted keeps what stood below the point: each folder, each file with its bytes on a cell, and nothing else.
 pub fn unmounted_volume_keeps_its_files()
     ensures { UnmountedVolumeKeepsItsFiles }
 {}
