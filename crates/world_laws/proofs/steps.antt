@@ -1,20 +1,24 @@
 -- The steps: each keeps what holds, and so does every list of them.
 pub mod Adding
+pub mod BoundFiles
 pub mod FileKeepingSteps
 pub mod FillAll
+pub mod FillApart
 pub mod Filling
 pub mod Keeping
+pub mod KeptBytes
 pub mod MkfsKeeping
 pub mod MountEnd
 pub mod MountKeeping
 pub mod MountRemoval
+pub mod MountedNodes
 pub mod MoveKeeping
 pub mod NameKeeping
 pub mod OpenKeeping
 pub mod Opening
+pub mod Remounting
 pub mod Renaming
 pub mod Resting
-pub mod RomFiles
 pub mod RomMount
 pub mod RootRemoval
 pub mod ScriptAsking
@@ -24,5 +28,7 @@ pub mod StepKeeping
 pub mod UmountKeeping
 pub mod Unmounting
 pub mod Vacating
+pub mod VolumeMount
+pub mod VolumeUmount
 pub mod WorldKeeping
 pub mod WorldSteps

@@ -1,5 +1,5 @@
--- What a mounted rom shows.
-use Rattle.std.specs.Prelude.{◌≡◌, ◌≢◌, ℕ, Option, Some, None, List, [], ◌++◌, Ok, slice_index_or}
+-- What a mounted rom and a mounted volume show, and what a volume keeps that is unmounted.
+use Rattle.std.specs.Prelude.{◌≡◌, ◌≢◌, ℕ, false, Option, Some, None, List, [], ◌++◌, Ok, slice_index_or}
 use Rattle.std.specs.FinMap.Entries.{find as value_at}
 use Rattle.vfs_base.specs.Path.{Path, path_cmp}
 use Rattle.vfs_base.specs.declared.entry.Mark.TheVariants as mark
@@ -13,12 +13,19 @@ use Rattle.vfs_base.specs.declared.reply.Reply.TheVariants as reply
 use Rattle.vfs_base.specs.declared.step.Step.TheVariants as step
 use Rattle.vfs_model.specs.Boxes.{IsConsistent}
 use Rattle.vfs_model.specs.Content.{fs_type_of, no_rom, rom_at}
-use Rattle.vfs_model.specs.Homes.{bytes_of, file_at}
+use Rattle.vfs_model.specs.FileLife.{volume_at, volume_named}
+use Rattle.vfs_model.specs.Homes.{bytes_of, cell_bytes, file_at}
 use Rattle.vfs_model.specs.Lookup.{asked_path, node_at}
+use Rattle.vfs_model.specs.MountStep.{is_without_source}
+use Rattle.vfs_model.specs.UmountSteps.{mount_at_point}
 use Rattle.vfs_model.specs.World.{world_step}
+use Rattle.vfs_model.specs.declared.namespace.KeptNode.{KeptNode}
+use Rattle.vfs_model.specs.declared.namespace.KeptNode.TheVariants as kept
+use Rattle.vfs_model.specs.declared.namespace.Mount.{Mount}
 use Rattle.vfs_model.specs.declared.namespace.Namespace.{Namespace}
 use Rattle.vfs_model.specs.declared.namespace.RomNode.{RomNode}
 use Rattle.vfs_model.specs.declared.namespace.RomNode.TheVariants as rom
+use Rattle.vfs_model.specs.declared.world.Homes.{Homes}
 use Rattle.vfs_model.specs.declared.world.WorldState.{WorldState}
 
 -- what a rom has at a path stands there: nothing, a folder, or a file of the rom's bytes
@@ -38,3 +45,53 @@ MountedRomShowsItsFiles = (w : WorldState) (k : ℕ) (source point_text type_tex
     (world_step w (who.Session k) (step.Mount source point_text type_text) mark.Clear).reply ≡ reply.Done → p ≢ [] →
     ShowsNode (world_step w (who.Session k) (step.Mount source point_text type_text) mark.Clear).next (value_at path_cmp p (rom_nodes w.namespace source))
     (node_at (world_step w (who.Session k) (step.Mount source point_text type_text) mark.Clear).next.namespace (path ++ p))
+
+-- what a volume keeps at a path stands there: nothing, a folder, or a file of the bytes that lay on its cell
+abbrev pub ShowsKept : Homes → ℕ → WorldState → Option KeptNode → Option NodeKind → Type 0
+ShowsKept homes volume v None found = found ≡ None
+ShowsKept homes volume v (Some kept.Dir) found = found ≡ Some node.Dir
+ShowsKept homes volume v (Some (kept.File cell)) found =
+    (id : FileId) × (found ≡ Some (node.File id kind.Cell)) × (bytes_of (file_at v id.row) ≡ cell_bytes homes volume cell)
+
+-- what the volume of this name keeps at each path
+abbrev pub kept_names : Namespace → List ℕ → List (Path × KeptNode)
+kept_names n source = (volume_at n (volume_named n source)).kept
+
+-- below the point of a volume that was mounted stands what the volume kept, and nothing else
+abbrev pub MountedVolumeShowsItsFiles : Type 0
+MountedVolumeShowsItsFiles = (w : WorldState) (k : ℕ) (source point_text type_text : List ℕ) (path p : Path) → IsConsistent w →
+    asked_path w.namespace k point_text ≡ Ok path → fs_type_of type_text ≡ Some fs.Cell →
+    (world_step w (who.Session k) (step.Mount source point_text type_text) mark.Clear).reply ≡ reply.Done → p ≢ [] →
+    ShowsKept w.homes (volume_named w.namespace source) (world_step w (who.Session k) (step.Mount source point_text type_text) mark.Clear).next
+    (value_at path_cmp p (kept_names w.namespace source))
+    (node_at (world_step w (who.Session k) (step.Mount source point_text type_text) mark.Clear).next.namespace (path ++ p))
+
+-- a volume keeps what stood somewhere: nothing, a folder, or a file on a cell, on which its bytes lie
+abbrev pub KeepsNode : WorldState → Option NodeKind → Homes → ℕ → Option KeptNode → Type 0
+KeepsNode w None homes volume name = name ≡ None
+KeepsNode w (Some node.Dir) homes volume name = name ≡ Some kept.Dir
+KeepsNode w (Some (node.File id shape)) homes volume name =
+    (shape ≡ kind.Cell) × (cell : ℕ) × (name ≡ Some (kept.File cell)) × (cell_bytes homes volume cell ≡ bytes_of (file_at w id.row))
+
+-- where the source of a mount is a volume, the volume keeps what stood below the point of the mount when it went, and nothing else
+abbrev pub UnmountedVolumeKeepsItsFiles : Type 0
+UnmountedVolumeKeepsItsFiles = (w : WorldState) (k : ℕ) (point_text : List ℕ) (mount : Mount) (path p : Path) → IsConsistent w →
+    asked_path w.namespace k point_text ≡ Ok path → mount_at_point w.namespace path ≡ Some mount → mount.fs ≡ fs.Cell → is_without_source w.namespace fs.Cell mount.source ≡ false →
+    let left = world_step w (who.Session k) (step.Umount point_text) mark.Clear in left.reply ≡ reply.Done → p ≢ [] →
+    KeepsNode w (node_at w.namespace (path ++ p)) left.next.homes (volume_named left.next.namespace mount.source) (value_at path_cmp p (kept_names left.next.namespace mount.source))
+
+-- what stood somewhere stands there now: nothing, a folder, or a file of the same kind and bytes, in this row or in another
+abbrev pub ShowsSame : WorldState → Option NodeKind → WorldState → Option NodeKind → Type 0
+ShowsSame w None v found = found ≡ None
+ShowsSame w (Some node.Dir) v found = found ≡ Some node.Dir
+ShowsSame w (Some (node.File id shape)) v found =
+    (other : FileId) × (found ≡ Some (node.File other shape)) × (bytes_of (file_at v other.row) ≡ bytes_of (file_at w id.row))
+
+-- a volume that is unmounted and mounted again, by whatever session and at whatever path, shows the same files, and nothing else
+abbrev pub RemountedVolumeShowsItsFiles : Type 0
+RemountedVolumeShowsItsFiles = (w : WorldState) (k j : ℕ) (point_text again_text type_text : List ℕ) (mount : Mount) (path again p : Path) → IsConsistent w →
+    asked_path w.namespace k point_text ≡ Ok path → mount_at_point w.namespace path ≡ Some mount → mount.fs ≡ fs.Cell →
+    let left = world_step w (who.Session k) (step.Umount point_text) mark.Clear in left.reply ≡ reply.Done →
+    asked_path left.next.namespace j again_text ≡ Ok again → fs_type_of type_text ≡ Some fs.Cell →
+    let back = world_step left.next (who.Session j) (step.Mount mount.source again_text type_text) mark.Clear in back.reply ≡ reply.Done →
+    ShowsSame w (node_at w.namespace (path ++ p)) back.next (node_at back.next.namespace (again ++ p))

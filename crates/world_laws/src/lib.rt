@@ -18,12 +18,13 @@
 //
 // `steps`: Keeping says what a step keeps, and StepKeeping has a case for each.
 // - on names: NameKeeping; Open: OpenKeeping; Close, Map, Unmap: FileKeepingSteps; Rename: Renaming, MoveKeeping
-// - Mount: Adding, MountKeeping, Filling, FillAll, MountEnd; what a rom shows then: RomFiles, RomMount; Mkfs: MkfsKeeping
-// - Umount: Unmounting, Vacating, MountRemoval, UmountKeeping; Shutdown: Resting, RootRemoval, ShutdownKeeping
+// - Mount: Adding, MountKeeping, Filling, BoundFiles, FillApart, FillAll, MountEnd; what stands below its point then: MountedNodes, RomMount, VolumeMount
+// - Umount: Unmounting, Vacating, MountRemoval, UmountKeeping; what a volume keeps then: KeptBytes, VolumeUmount; both one after the other: Remounting
+// - Mkfs: MkfsKeeping; Shutdown: Resting, RootRemoval, ShutdownKeeping
 // - of one file: WorldKeeping; every step and every list of steps: WorldSteps; the start: Opening
 // - every schedule of a script: ScriptKeeping; what it asks: ScriptAsking
 
-ghost use Rattle.world_laws.specs.Mounted.{MountedRomShowsItsFiles};
+ghost use Rattle.world_laws.specs.Mounted.{MountedRomShowsItsFiles, MountedVolumeShowsItsFiles, RemountedVolumeShowsItsFiles, UnmountedVolumeKeepsItsFiles};
 ghost use Rattle.world_laws.specs.Keeping.{AskedMayBeTaken, FileStepsKeepConsistency, OpeningIsConsistent, RunsKeepConsistency, StepsKeepConsistency};
 ghost use Rattle.world_laws.specs.Scripts.{ScriptStepsMayBeAsked, ScriptsStayConsistent};
 
@@ -65,4 +66,19 @@ pub fn script_steps_may_be_asked()
 /// Below the point of a rom that was mounted stands what the rom has, with its bytes, and nothing else.
 pub fn mounted_rom_shows_its_files()
     ensures { MountedRomShowsItsFiles }
+{}
+
+/// Below the point of a volume that was mounted stands what the volume kept, with the bytes that lay on its cells, and nothing else.
+pub fn mounted_volume_shows_its_files()
+    ensures { MountedVolumeShowsItsFiles }
+{}
+
+/// A volume that was unmounted keeps what stood below the point: each folder, each file with its bytes on a cell, and nothing else.
+pub fn unmounted_volume_keeps_its_files()
+    ensures { UnmountedVolumeKeepsItsFiles }
+{}
+
+/// A volume that is unmounted and mounted again, at the same path or at another, shows the same folders and the same files, with the same bytes.
+pub fn remounted_volume_shows_its_files()
+    ensures { RemountedVolumeShowsItsFiles }
 {}

@@ -252,7 +252,7 @@ bind-agrees v n row life begins l live_files generations b = λ new a. record {
 }
 
 -- the bytes of a live file are within its capacity
-agreed-length : (found : Option LiveFile) (generation : ℕ) (f : FileState) → agrees found generation f ≡ true → length (bytes_of f) ≤ file_capacity f
+pub agreed-length : (found : Option LiveFile) (generation : ℕ) (f : FileState) → agrees found generation f ≡ true → length (bytes_of f) ≤ file_capacity f
 agreed-length found generation (file.Unbound g) h = omega arith
 agreed-length found generation (file.Device g input output) h = omega arith
 agreed-length None generation (file.Bytes g k capacity bytes) h = absurd (cc)

@@ -63,16 +63,16 @@ pub record Empty (number : ℕ) (m : Namespace) (left : List ℕ) : Type 0 where
   pub unlinked : (row : ℕ) → InRows left row → Linked m row → Unit {0} → ⊥
   pub unheld : (row : ℕ) → InRows left row → Held m row → Unit {0} → ⊥
 
-above-apart : (row other : ℕ) (rows : List ℕ) → AllAbove row rows → InRows rows other → other ≢ row
+pub above-apart : (row other : ℕ) (rows : List ℕ) → AllAbove row rows → InRows rows other → other ≢ row
 above-apart row other [] above i e = absurd i
 above-apart row other (r ∷ rows) above (inl same) e = let l = above.0 in absurd (omega (arith, l, same, e))
 above-apart row other (r ∷ rows) above (inr i) e = above-apart row other rows above.1 i e
 
 -- other rows' lives after one was freed
-still-life : (m : Namespace) (row other : ℕ) → other - 1 ≢ row - 1 → life_at (without_life m row) other ≡ life_at m other
+pub still-life : (m : Namespace) (row other : ℕ) → other - 1 ≢ row - 1 → life_at (without_life m row) other ≡ life_at m other
 still-life m row other h = set-there m.live_files (row - 1) (other - 1) None None h
 
-rows-differ : (row other : ℕ) → 0 < row → row < other → other - 1 ≢ row - 1
+pub rows-differ : (row other : ℕ) → 0 < row → row < other → other - 1 ≢ row - 1
 rows-differ row other l m e = omega (arith, l, m, e)
 
 still-left : (number : ℕ) (m : Namespace) (row : ℕ) (rows : List ℕ) → 0 < row → AllAbove row rows → RowsLeft number m rows → RowsLeft number (without_life m row) rows
@@ -283,7 +283,7 @@ live-within lives place volume cell h = by (slice_index_or lives place None) ref
     by None e k = absurd (no-cell volume cell (sym (ap backing_of e) ∙ k))
     by (Some life) e k = some-within lives place life e
 
-not-one : (b : Bool) → one_if b ≡ 0 → b ≡ false
+pub not-one : (b : Bool) → one_if b ≡ 0 → b ≡ false
 not-one true h = absurd (omega (arith, h))
 not-one false h = refl
 

@@ -5,7 +5,7 @@ use Rattle.std.specs.List.{list_any}
 use Rattle.std.specs.Prelude.{count_by}
 use Rattle.vfs_model.specs.Boxes.{BoxesPlaced, HomesFit, IsConsistent, is_backed_by, is_kept_on, lies_on_cell, one_if}
 use Rattle.vfs_model.specs.FileLife.{backing_of, no_volume, volume_at}
-use Rattle.vfs_model.specs.Homes.{cell_bytes, with_empty_cells}
+use Rattle.vfs_model.specs.Homes.{cell_bytes, cell_capacity, with_empty_cells}
 use Rattle.vfs_model.specs.Namespace.{life_at}
 use Rattle.vfs_model.specs.UmountSteps.{format_volume}
 use Rattle.vfs_model.specs.declared.namespace.Backing.TheVariants as backing
@@ -13,6 +13,7 @@ use Rattle.vfs_model.specs.declared.namespace.LiveFile.{LiveFile}
 use Rattle.vfs_model.specs.declared.namespace.Namespace.{Namespace}
 use Rattle.vfs_model.specs.declared.world.Homes.{Homes}
 use Rattle.vfs_model.specs.declared.world.WorldState.{WorldState}
+use Rattle.world_laws.proofs.parts.Agreeing.{Agrees}
 use Rattle.world_laws.proofs.parts.AtHome.{AtHome}
 use Rattle.world_laws.proofs.lists.Counting.{count-place, none-count, some-count}
 use Rattle.world_laws.proofs.parts.Emptying.{backed, live-within}
@@ -22,7 +23,7 @@ use Rattle.world_laws.proofs.parts.Taking.{set-at}
 use Rattle.world_laws.proofs.steps.Vacating.{on-cell}
 
 -- what is said of the bytes on a cell is said of the cells that there are
-bytes-inside : (homes : Homes) (n : Namespace) (volume cell : ℕ) → length homes.cells ≡ length n.volumes → length (slice_index_or homes.cells volume []) ≡ length (volume_at n volume).pages →
+pub bytes-inside : (homes : Homes) (n : Namespace) (volume cell : ℕ) → length homes.cells ≡ length n.volumes → length (slice_index_or homes.cells volume []) ≡ length (volume_at n volume).pages →
     (volume < length n.volumes → cell < length (volume_at n volume).pages → cell_bytes homes volume cell ≡ []) → cell_bytes homes volume cell ≡ []
 bytes-inside homes n volume cell volumes cells h = elim (below-or-past volume (length homes.cells)) [
   | inr past ↦ ap (λ found. slice_index_or found cell []) (get_or_past homes.cells volume [] past)
@@ -57,6 +58,19 @@ at-home-of w c = record {
       let one : one_if (slice_index_or (volume_at w.namespace volume).spare cell false) ≡ 1 = ap one_if h in
       c.homes_fit.kept volume cell (no-count (λ entry. is_kept_on cell entry.1) (volume_at w.namespace volume).kept (omega (arith, placed, one))));
   out = c.homes_fit.out;
+}
+
+-- the files of a world agree with its namespace, also where the next namespace stands already, whose cells are as large
+pub agrees-of : (w : WorldState) (next : Namespace) → IsConsistent w → ((volume cell : ℕ) → cell_capacity next volume cell ≡ cell_capacity w.namespace volume cell) →
+    Agrees (record w { namespace = next }) w.namespace
+agrees-of w next c pages = record {
+  files = record {
+    files = c.sizes.files;
+    agree = c.rows_agree;
+    live = λ row volume cell h. let l = c.cells_fit.live row volume cell h in let e = pages volume cell in omega (arith, l, e);
+    home = λ volume cell. let l = c.cells_fit.home volume cell in let e = pages volume cell in omega (arith, l, e);
+  };
+  homes = at-home-of w c;
 }
 
 pub homes-fit-of : (w : WorldState) → BoxesPlaced w.namespace → AtHome w.homes w.namespace → HomesFit w

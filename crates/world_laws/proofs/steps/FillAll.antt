@@ -25,11 +25,12 @@ use Rattle.vfs_model.specs.declared.namespace.RowChange.TheVariants as change
 use Rattle.vfs_model.specs.declared.world.WorldState.{WorldState}
 use Rattle.world_laws.proofs.parts.Agreeing.{Agrees, IsNewSpare, bind-agrees}
 use Rattle.world_laws.proofs.parts.Binding.{next_generations}
+use Rattle.world_laws.proofs.steps.FillApart.{fill-apart}
 use Rattle.world_laws.proofs.steps.Filling.{Fill, FitsOrigin, begins-fit, fill-file, fill-folder, life_of, not-behind}
 use Rattle.world_laws.proofs.parts.FreeRows.{some-free}
 use Rattle.world_laws.proofs.parts.Growing.{tree-own}
 use Rattle.world_laws.proofs.steps.OpenKeeping.{taken-pages}
-use Rattle.world_laws.proofs.steps.RomFiles.{Shown, changed-files, shown-file, shown-folder}
+use Rattle.world_laws.proofs.steps.BoundFiles.{Coming, Shown, shown-file, shown-folder, still-coming}
 use Rattle.world_laws.proofs.parts.Taking.{with_life}
 use Rattle.std.proofs.lemmas.List.Sums.{sum_by-cons}
 use Rattle.vfs_model.specs.Boxes.{one_if}
@@ -74,8 +75,9 @@ module _ (mount : Mount) where
     pub is : (fold adds (record { next = with_tree m mount.number tree; changes = changes }) left).next ≡ with_tree last mount.number final
     pub pages : (volume cell : ℕ) → cell_capacity last volume cell ≡ cell_capacity m volume cell
     pub files : (v : WorldState) → Agrees (fold change_row v changes) m → Agrees (fold change_row v (fold adds (record { next = with_tree m mount.number tree; changes = changes }) left).changes) last
-    pub shown : (v : WorldState) → length v.files ≡ 1024 → Shown (fold change_row v changes) m tree (kind_of mount.fs) behind →
-        Shown (fold change_row v (fold adds (record { next = with_tree m mount.number tree; changes = changes }) left).changes) last final (kind_of mount.fs) (behind ++ left)
+    pub shown : (start v : WorldState) → Agrees (fold change_row v changes) m → Coming start (fold change_row v changes) left →
+        Shown start (fold change_row v changes) m tree (kind_of mount.fs) behind →
+        Shown start (fold change_row v (fold adds (record { next = with_tree m mount.number tree; changes = changes }) left).changes) last final (kind_of mount.fs) (behind ++ left)
 
   folder-rows : (m : Namespace) (tree : Tree) (p : Path) (changes : List RowChange) → length m.trees ≡ 16 → mount.number < 16 →
       adds (record { next = with_tree m mount.number tree; changes = changes }) (p, None) ≡ record { next = with_tree m mount.number (put path_cmp p node.Dir tree); changes = changes }
@@ -103,7 +105,7 @@ module _ (mount : Mount) where
     is = refl;
     pages = λ volume cell. refl;
     files = λ v a. a;
-    shown = λ v l s. subst (Shown (fold change_row v changes) m tree (kind_of mount.fs)) (sym (append-nil behind)) s;
+    shown = λ start v a coming s. subst (Shown start (fold change_row v changes) m tree (kind_of mount.fs)) (sym (append-nil behind)) s;
   }
   fill-all ((p, None) ∷ left) base m tree behind changes l f =
       let more = fill-folder mount base m tree behind left p f in
@@ -116,9 +118,9 @@ module _ (mount : Mount) where
         is = ap (λ r. (fold adds r left).next) rows ∙ later.is;
         pages = later.pages;
         files = λ v a. subst (λ r. Agrees (fold change_row v (fold adds r left).changes) later.last) (sym rows) (later.files v a);
-        shown = λ v e s.
-            let more = shown-folder (fold change_row v changes) m tree (kind_of mount.fs) behind p (not-behind mount p None behind left f.order) s in
-            rw (sym rows, append_assoc behind ((p, None) ∷ []) left) at later.shown v e more;
+        shown = λ start v a coming s.
+            let more = shown-folder start (fold change_row v changes) m tree (kind_of mount.fs) behind p (not-behind mount p None behind left f.order) s in
+            rw (sym rows, append_assoc behind ((p, None) ∷ []) left) at later.shown start v a coming.1 more;
       }
   fill-all ((p, Some begins) ∷ left) base m tree behind changes l f =
       let row = least_free_row m in
@@ -128,6 +130,8 @@ module _ (mount : Mount) where
       let rows = file-rows m tree p begins changes f.rest.sizes.trees l in
       let counted : file_count ((p, Some begins) ∷ left) ≡ 1 + file_count left = sum_by-cons (λ entry. one_if (is_some entry.1)) (p, Some begins) left in
       let free = some-free m f.rest.sizes.live_files f.rest.sizes.generations (let room = f.room in omega (arith, counted, room)) in
+      let agreed : (now : WorldState) → Agrees now m → Agrees (change_row now (change.Bind (next_file m row) begins)) bound = λ now a.
+      bind-agrees now m row (life_of mount begins) begins free.small f.rest.sizes.live_files f.rest.sizes.generations (begins-fit mount m p begins f.fit.0) (begins-new mount m p begins f.fit.0) a in
       record {
         last = later.last;
         final = later.final;
@@ -135,13 +139,14 @@ module _ (mount : Mount) where
         is = ap (λ r. (fold adds r left).next) rows ∙ later.is;
         pages = λ volume cell. later.pages volume cell ∙ taken-pages (with_life m row (Some (life_of mount begins)) (next_generations m row)) (life_of mount begins).backing volume cell;
         files = λ v a. subst (λ r. Agrees (fold change_row v (fold adds r left).changes) later.last) (sym rows)
-            (later.files v (subst (λ w. Agrees w bound) (sym (fold-append change_row v changes (change.Bind (next_file m row) begins ∷ [])))
-            (bind-agrees (fold change_row v changes) m row (life_of mount begins) begins free.small f.rest.sizes.live_files f.rest.sizes.generations (begins-fit mount m p begins f.fit.0) (begins-new mount m p begins f.fit.0) a)));
-        shown = λ v e s.
+            (later.files v (subst (λ w. Agrees w bound) (sym (fold-append change_row v changes (change.Bind (next_file m row) begins ∷ []))) (agreed (fold change_row v changes) a)));
+        shown = λ start v a coming s.
             let now = fold change_row v changes in
-            let more = shown-file now m tree (kind_of mount.fs) behind p begins row (life_of mount begins) (not-behind mount p (Some begins) behind left f.order) free
-            (changed-files changes v ∙ e) f.rest.sizes.live_files s in
-            let last = subst (λ w. Shown w bound (put path_cmp p (node.File (next_file m row) (kind_of mount.fs)) tree) (kind_of mount.fs) (behind ++ (p, Some begins) ∷ []))
-            (sym (fold-append change_row v changes (change.Bind (next_file m row) begins ∷ []))) more in
-            rw (sym rows, append_assoc behind ((p, Some begins) ∷ []) left) at later.shown v e last;
+            let come = sym (fold-append change_row v changes (change.Bind (next_file m row) begins ∷ [])) in
+            let more = shown-file start now m tree (kind_of mount.fs) behind p begins row (life_of mount begins) (not-behind mount p (Some begins) behind left f.order) free
+            a.files.files f.rest.sizes.live_files coming.0 s in
+            let still = still-coming start now (next_file m row) begins left (fill-apart mount base m tree behind left p begins f now.homes a.homes) coming.1 in
+            let last = later.shown start v (subst (λ w. Agrees w bound) come (agreed now a)) (subst (λ w. Coming start w left) come still)
+            (subst (λ w. Shown start w bound (put path_cmp p (node.File (next_file m row) (kind_of mount.fs)) tree) (kind_of mount.fs) (behind ++ (p, Some begins) ∷ [])) come more) in
+            rw (sym rows, append_assoc behind ((p, Some begins) ∷ []) left) at last;
       }

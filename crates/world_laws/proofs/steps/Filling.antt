@@ -112,7 +112,7 @@ module _ (mount : Mount) where
     pub working_directories : m.working_directories ≡ base.working_directories
     pub trees : m.trees ≡ base.trees
 
-  less-apart : (p q : Path) → T (is_lt (path_cmp p q)) → p ≢ q
+  pub less-apart : (p q : Path) → T (is_lt (path_cmp p q)) → p ≢ q
   less-apart p q l e = not-less (path_cmp p q) l (ap (λ x. path_cmp p x) (sym e) ∙ tied_itself path_cmp_total p)
     where
       not-less : (o : Ordering) → T (is_lt o) → o ≡ Equal → ⊥
@@ -148,7 +148,7 @@ module _ (mount : Mount) where
       (equal-false p e.0 (λ same. below-last e.0 p o behind left (t-first _ (is_sorted path_cmp (behind ++ (p, o) ∷ left)) h) (sym same)))
       ∙ not-behind p o behind left (t-second (below_all path_cmp e.0 (behind ++ (p, o) ∷ left)) _ h)
 
-  later-sorted : {X : Type 0} (behind left : List (Path × X)) → T (is_sorted path_cmp (behind ++ left)) → T (is_sorted path_cmp left)
+  pub later-sorted : {X : Type 0} (behind left : List (Path × X)) → T (is_sorted path_cmp (behind ++ left)) → T (is_sorted path_cmp left)
   later-sorted [] left h = h
   later-sorted (e ∷ behind) left h = later-sorted behind left (t-second (below_all path_cmp e.0 (behind ++ left)) _ h)
 

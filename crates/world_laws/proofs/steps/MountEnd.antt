@@ -26,7 +26,6 @@ use Rattle.vfs_model.specs.Homes.{cell_capacity, change_row}
 use Rattle.vfs_model.specs.Lookup.{asked_path, covering_mount, nearest, node_in, has_folder_within, has_mount_below, has_nodes, is_dir_node, is_file, is_point, is_prefix, is_there, node_at, walk_refusal, with_tree}
 use Rattle.vfs_model.specs.Laws.{with_mount}
 use Rattle.vfs_model.specs.MountStep.{add_mount, is_taken, is_without_source, least_free_mount, mount_at, mount_refusals, mount_step, without_kept}
-use Rattle.vfs_model.specs.NameSteps.{done}
 use Rattle.vfs_model.specs.Namespace.{all_mounts, folder_of, same_path, tree_of}
 use Rattle.vfs_model.specs.declared.namespace.Mount.{Mount}
 use Rattle.vfs_model.specs.OpenStep.{kind_of}
@@ -47,7 +46,7 @@ use Rattle.world_laws.proofs.steps.MoveKeeping.{plain-folder, within-or-not}
 use Rattle.world_laws.proofs.steps.NameKeeping.{not-root}
 use Rattle.world_laws.proofs.lists.Passing.{refuse-passed, then-first, then-rest}
 use Rattle.world_laws.proofs.parts.Points.{point-covers}
-use Rattle.world_laws.proofs.steps.RomFiles.{Shown}
+use Rattle.world_laws.proofs.steps.BoundFiles.{Shown, coming-start}
 use Rattle.world_laws.proofs.parts.Standing.{IsUsed, Nothing, Stands}
 use Rattle.world_laws.proofs.parts.Taking.{boxes-all}
 
@@ -205,13 +204,6 @@ module _ (n : Namespace) (mount : Mount) (s : Stands Nothing n) (may : MayMount 
   unfolding add_mount
   added = ap (λ b. fold (adds mount) (record { next = b; changes = [] }) (content_of n mount.fs mount.source)) (sym begins-empty)
 
-  -- the files of a rom that is mounted have its bytes
-  pub added-shown : (v : WorldState) → length v.files ≡ 1024 →
-      Shown (fold change_row v (add_mount n mount).changes) (all.last) (all.final) (kind_of mount.fs) (content_of n mount.fs mount.source)
-  added-shown v l =
-      subst (λ r. Shown (fold change_row v r.changes) (all.last) (all.final) (kind_of mount.fs) (content_of n mount.fs mount.source)) (sym added)
-      (all.shown v l (λ p place at h. absurd (cc)))
-
   -- what the mount was filled with has the shape of its content
   pub added-shape : (p : Path) → node_shape (value_at path_cmp p (all.final)) ≡ content_shape (value_at path_cmp p (content_of n mount.fs mount.source))
   added-shape = all.fill.shape
@@ -240,6 +232,13 @@ module _ (n : Namespace) (mount : Mount) (s : Stands Nothing n) (may : MayMount 
   base-agrees fs.Rom v a = agrees-beside v n (with_one n mount) (refl, refl, refl, refl) a
   base-agrees fs.Dev v a = agrees-beside v n (with_one n mount) (refl, refl, refl, refl) a
   base-agrees fs.Cell v a = agrees-named v (with_one n mount) (volume_named n mount.source) [] (agrees-beside v n (with_one n mount) (refl, refl, refl, refl) a)
+
+  -- each file of the mount is what it begins with
+  pub added-shown : (v : WorldState) → Agrees v n →
+      Shown v (fold change_row v (add_mount n mount).changes) (all.last) (all.final) (kind_of mount.fs) (content_of n mount.fs mount.source)
+  added-shown v a =
+      subst (λ r. Shown v (fold change_row v r.changes) (all.last) (all.final) (kind_of mount.fs) (content_of n mount.fs mount.source)) (sym added)
+      (all.shown v v (base-agrees mount.fs v a) (coming-start v (content_of n mount.fs mount.source)) (λ p begins h. absurd (cc)))
 
   pub added-kept : Keeps n (add_mount n mount).next (add_mount n mount).changes
   added-kept = record {
@@ -296,6 +295,7 @@ free-number n l = elim (below-or-past (least_free_mount n) 16) [
 -- what a mount needs to begin, where none of its refusals holds
 pub record MayBegin (n : Namespace) (mount : Mount) : Type 0 where
   pub may : MayMount n mount
+  pub sourced : is_without_source n mount.fs mount.source ≡ false
   pub taken : is_taken n mount.fs mount.source ≡ false
   pub room : file_count (content_of n mount.fs mount.source) ≤ free_count n
   pub away : (k : ℕ) → is_prefix mount.point (folder_of n k) ≡ false
@@ -339,6 +339,7 @@ may-begin n path asked source s h =
         small = number.0;
         room = omega (arith, fewer);
       };
+      sourced = nor-first (is_without_source n asked source) _ (refuse-passed errno.ENXIO without (then-first (refuse errno.ENXIO when without) _ tt r6));
       taken = taken;
       room = ltb-false (free_count n) (file_count (content_of n asked source)) room;
       away = λ j. within-or-not n path j (not-root n path s.working_directories unpointed) away;

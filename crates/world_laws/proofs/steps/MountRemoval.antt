@@ -81,7 +81,7 @@ kept-mounts n mount fs.Cell = refl
 kept-mounts n mount fs.Dev = refl
 
 -- a removal frees the files of the namespace that the mount left
-removed : (n : Namespace) (mount : Mount) (changes : List RowChange) →
+pub removed : (n : Namespace) (mount : Mount) (changes : List RowChange) →
     remove_mount (record { next = n; changes = changes }) mount ≡ fold (free_row end_of_unmounted) (record { next = left_by n mount mount.fs; changes = changes }) (rows_of_mount n mount.number)
 unfolding remove_mount empty_mount
 removed n mount changes =

@@ -89,7 +89,7 @@ root-busy n s free = by n.mounts refl
         longer (x ∷ p) h = omega arith
 
 -- a mount that is not busy may go
-may-leave : (n : Namespace) (path : Path) (mount : Mount) → Stands Nothing n → mount_at_point n path ≡ Some mount → is_busy n mount ≡ false → MayLeave n mount
+pub may-leave : (n : Namespace) (path : Path) (mount : Mount) → Stands Nothing n → mount_at_point n path ≡ Some mount → is_busy n mount ≡ false → MayLeave n mount
 unfolding is_busy
 may-leave n path mount s found free =
     let at = found-at (λ m. same_path m.point path) (all_mounts n) mount found in

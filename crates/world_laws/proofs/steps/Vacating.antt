@@ -71,7 +71,7 @@ no-rows p (r ∷ rows) h =
     let later = no-rows p rows (λ row i. h row (inr i)) in
     omega (arith, all, first, later)
 
-above-in : (r row : ℕ) (rows : List ℕ) → AllAbove r rows → InRows rows row → r < row
+pub above-in : (r row : ℕ) (rows : List ℕ) → AllAbove r rows → InRows rows row → r < row
 above-in r row [] above i = absurd i
 above-in r row (x ∷ rows) above (inl e) = subst (λ k. r < k) (sym e) above.0
 above-in r row (x ∷ rows) above (inr i) = above-in r row rows above.1 i
@@ -124,11 +124,11 @@ module _ (n : Namespace) (mount : Mount) (s : Stands Nothing n) (may : MayLeave 
   some-fits (Some m) life e h = subst (λ x. fits_mount n life x ≡ true) (same-some m mount e) h
 
   -- a file of the mount is of the mount's kind and on its volume
-  own-fits : (row : ℕ) (life : LiveFile) → life_at n row ≡ Some life → life.mount ≡ mount.number → fits_mount n life mount ≡ true
+  pub own-fits : (row : ℕ) (life : LiveFile) → life_at n row ≡ Some life → life.mount ≡ mount.number → fits_mount n life mount ≡ true
   own-fits row life h e =
       some-fits (mount_numbered n life.mount) life (ap (mount_numbered n) e ∙ numbered n mount s.working_directories may.is) (s.live_files row life h)
 
-  of-volume : (life : LiveFile) (volume cell : ℕ) → life.backing ≡ backing.Cell volume cell → fits_mount n life mount ≡ true → volume ≡ volume_named n mount.source
+  pub of-volume : (life : LiveFile) (volume cell : ℕ) → life.backing ≡ backing.Cell volume cell → fits_mount n life mount ≡ true → volume ≡ volume_named n mount.source
   of-volume life volume cell e h =
       let fits : (same_kind life.kind (kind_of mount.fs) && (volume == volume_named n mount.source)) ≡ true = subst (λ b. fits_mount n (record life { backing = b }) mount ≡ true) e h in
       same-number volume (volume_named n mount.source) (and-second (same_kind life.kind (kind_of mount.fs)) _ fits)
@@ -150,7 +150,7 @@ module _ (n : Namespace) (mount : Mount) (s : Stands Nothing n) (may : MayLeave 
       ])
 
   -- two live files on one cell are one
-  same-cell : (volume cell a b : ℕ) → volume < length n.volumes → cell < length (volume_at n volume).pages → 0 < a → 0 < b → a - 1 < 1024 → b - 1 < 1024 →
+  pub same-cell : (volume cell a b : ℕ) → volume < length n.volumes → cell < length (volume_at n volume).pages → 0 < a → 0 < b → a - 1 < 1024 → b - 1 < 1024 →
       is_backed_by (lies_on_cell volume cell) (life_at n a) ≡ true → is_backed_by (lies_on_cell volume cell) (life_at n b) ≡ true → a ≡ b
   same-cell volume cell a b v c l m small less h k =
       let placed = s.boxes.cells volume cell v c in
@@ -176,7 +176,7 @@ module _ (n : Namespace) (mount : Mount) (s : Stands Nothing n) (may : MayLeave 
   backed-live None volume cell h = absurd (cc)
   backed-live (Some life) volume cell h = on-cell volume cell life.backing h
 
-  node-row : (path : Path) (id : FileId) (kind : Kind) → value_at path_cmp path (tree_of n mount.number) ≡ Some (node.File id kind) → InRows (rows_of_mount n mount.number) id.row
+  pub node-row : (path : Path) (id : FileId) (kind : Kind) → value_at path_cmp path (tree_of n mount.number) ≡ Some (node.File id kind) → InRows (rows_of_mount n mount.number) id.row
   node-row path id kind h =
       let live = s.live.linked mount.number path id kind h in
       by (life_at n id.row) refl live.life live.row

@@ -30,9 +30,8 @@ use Rattle.vfs_model.specs.declared.namespace.Namespace.{Namespace}
 use Rattle.vfs_model.specs.declared.namespace.RowChange.{RowChange}
 use Rattle.vfs_model.specs.declared.world.Homes.{Homes}
 use Rattle.vfs_model.specs.declared.world.WorldState.{WorldState}
-use Rattle.world_laws.proofs.parts.Agreeing.{Agrees}
 use Rattle.world_laws.proofs.parts.AtHome.{AtHome}
-use Rattle.world_laws.proofs.parts.HomesKeeping.{at-home-of, home-formatted, homes-fit-of}
+use Rattle.world_laws.proofs.parts.HomesKeeping.{agrees-of, at-home-of, home-formatted, homes-fit-of}
 use Rattle.world_laws.proofs.steps.Keeping.{Keeps}
 use Rattle.world_laws.proofs.lists.Lists.{or-second, true-or-false}
 use Rattle.world_laws.proofs.steps.MkfsKeeping.{format-named, format-pages, format-stands}
@@ -44,17 +43,9 @@ use Rattle.world_laws.proofs.steps.WorldKeeping.{file-consistent}
 use Rattle.world_laws.specs.Keeping.{HasNumber, MayRun}
 
 -- what a step keeps, and the changes of rows, leave the world consistent
-changed-consistent : (w : WorldState) (next : Namespace) (changes : List RowChange) → IsConsistent w → Keeps w.namespace next changes → IsConsistent (fold change_row (record w { namespace = next }) changes)
+pub changed-consistent : (w : WorldState) (next : Namespace) (changes : List RowChange) → IsConsistent w → Keeps w.namespace next changes → IsConsistent (fold change_row (record w { namespace = next }) changes)
 changed-consistent w next changes c kept =
-    let before : Agrees (record w { namespace = next }) w.namespace = record {
-      files = record {
-        files = c.sizes.files;
-        agree = c.rows_agree;
-        live = λ row volume cell h. let l = c.cells_fit.live row volume cell h in let e = kept.pages volume cell in omega (arith, l, e);
-        home = λ volume cell. let l = c.cells_fit.home volume cell in let e = kept.pages volume cell in omega (arith, l, e);
-      };
-      homes = at-home-of w c;
-    } in
+    let before = agrees-of w next c kept.pages in
     let after = kept.files (record w { namespace = next }) before in
     let same = changed-namespace changes (record w { namespace = next }) in
     let out = fold change_row (record w { namespace = next }) changes in
