@@ -2,7 +2,7 @@
 
 ghost use Rattle.std.specs.Prelude.{◌≡◌, true};
 ghost use Rattle.vfs_base.specs.Path.{AllAre};
-ghost use Rattle.plain_steps.specs.Opening.{HasFewCells};
+ghost use Rattle.vfs_model.specs.Sizes.{HasFewCells};
 
 use case_forms::CaseFault;
 use plain_steps::PlainFault;

@@ -2,7 +2,6 @@
 
 ghost use Rattle.std.specs.Prelude.{◌≡◌, ◌-◌, [], map, slice_index_or, slice_set};
 ghost use Rattle.vfs_model.specs.Homes.{bound_file, cell_capacity, change_row, homes_after_bind, homes_after_end, bytes_of, home_of, with_empty_cells};
-ghost use Rattle.vfs_model.specs.FileLife.{volume_at};
 ghost use Rattle.vfs_model.specs.declared.namespace.RowChange.TheVariants as change;
 ghost use Rattle.plain_files.specs.Contents.{origin_content};
 

@@ -1,6 +1,6 @@
 //! How steps of a file move its bytes.
 
-ghost use Rattle.std.specs.Prelude.{◌≡◌, ℕ, ◌≤◌, ◌+◌, ◌-◌, ◌<◌, ◌^◌, min, ◌++◌, length, take, drop, OnOk, OnErr, IfOk};
+ghost use Rattle.std.specs.Prelude.{◌≡◌, ℕ, ◌≤◌, ◌+◌, ◌-◌, ◌<◌, ◌^◌, min, length, take, drop, OnOk, OnErr, IfOk};
 ghost use Rattle.vfs_model.specs.FileStep.{bytes_count, device_count, count_of, moved_count, written_at};
 ghost use Rattle.vfs_model.specs.FileMoves.{move, move_bytes, move_device};
 ghost use Rattle.plain_files.specs.Moving.{moved_bytes};

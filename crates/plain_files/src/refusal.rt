@@ -1,6 +1,6 @@
 //! What the steps of a file are refused with.
 
-ghost use Rattle.std.specs.Prelude.{◌≡◌, ◌+◌, nat_lt, length};
+ghost use Rattle.std.specs.Prelude.{◌≡◌, ◌+◌, nat_lt};
 ghost use Rattle.vfs_model.specs.FileStep.{file_refusals, bytes_refusals, device_refusals, absent_refusals, write_refusals, trunc_refusals, is_rom, is_cell, full_errno, is_of_generation, step_file};
 
 use vfs_base::{Errno, FileId, Kind, Step};

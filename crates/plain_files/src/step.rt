@@ -1,6 +1,6 @@
 //! One step of one file, and the marks that it may have.
 
-ghost use Rattle.std.specs.Prelude.{◌≡◌, true, OnOk, OnErr, IfOk, ◌==◌, nat_lt};
+ghost use Rattle.std.specs.Prelude.{◌≡◌, true, OnErr, IfOk, ◌==◌};
 ghost use Rattle.vfs_model.specs.FileMoves.{file_step, fits_file, is_before_end, is_on_cell, is_on_device, stopped_step, clear_step};
 ghost use Rattle.vfs_model.specs.FileStep.{file_refusals};
 

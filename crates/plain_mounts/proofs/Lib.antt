@@ -1,10 +1,9 @@
 pub mod Binds
 pub mod Brings
-pub mod ContentSizes
+pub mod FreedRows
 pub mod Keeps
 pub mod Numbers
 pub mod Rests
-pub mod SizedMounts
-pub mod SizedUnmounts
+pub mod RomsStay
 pub mod Starts
 pub mod Unmounts

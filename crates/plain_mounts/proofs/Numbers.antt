@@ -4,7 +4,6 @@ use Rattle.std.specs.Prelude.{not, ◌||◌, count_by, Option, Some, None}
 use Rattle.std.specs.List.{list_any, position_or_len, range_with_len}
 use Rattle.std.proofs.lemmas.Bool.Decides.{nat_tests}
 use Rattle.std.proofs.lemmas.List.Sums.{sum_by-cons}
-use Rattle.vfs_model.specs.Consistency.{is_number}
 use Rattle.vfs_model.specs.MountStep.{least_free_mount}
 use Rattle.vfs_model.specs.Namespace.{all_mounts}
 use Rattle.vfs_model.specs.declared.namespace.Mount.{Mount}
@@ -88,30 +87,6 @@ least_is_number n h =
     let most : count_by taken (range_with_len 0 16) ≤ length (all_mounts n) = taken_by (all_mounts n) 0 16 in
     let all : 16 ≤ count_by taken (range_with_len 0 16) = all_taken taken (range_with_len 0 16) past in
     omega (arith, most, all, h))
-
-free_on : (taken : ℕ → Bool) (first later count : ℕ) (test : Bool) → taken first ≡ test → (later < count → taken (first + 1 + later) ≡ false) →
-    cond (not (not test)) (1 + later) 0 < suc count → taken (first + cond (not (not test)) (1 + later) 0) ≡ false
-free_on taken first later count true e behind h =
-    let same : first + (1 + later) ≡ first + 1 + later = omega arith in
-    ap taken same ∙ behind (omega (arith, h))
-free_on taken first later count false e behind h =
-    let same : first + 0 ≡ first = omega arith in
-    ap taken same ∙ e
-
--- the first that is not taken is not taken
-found_free : (taken : ℕ → Bool) (first count : ℕ) → position_or_len (λ x. not (taken x)) (range_with_len first count) < count →
-    taken (first + position_or_len (λ x. not (taken x)) (range_with_len first count)) ≡ false
-found_free taken first zero h = absurd (omega (arith, h))
-found_free taken first (suc count) h =
-    free_on taken first (position_or_len (λ x. not (taken x)) (range_with_len (first + 1) count)) count (taken first) refl
-    (found_free taken (first + 1) count) h
-
--- no mount has the least free number
-pub least_is_free : (n : Namespace) → length n.mounts ≤ 14 → is_number n (least_free_mount n) ≡ false
-least_is_free n h =
-    let zero_on : 0 + least_free_mount n ≡ least_free_mount n = omega arith in
-    ap (is_number n) (sym zero_on)
-    ∙ found_free (λ number. list_any (λ mount. mount.number == number) (all_mounts n)) 0 16 (least_is_number n h)
 
 range_on : (number : ℕ) → number < 16 → range_with_len number (16 - number) ≡ number ∷ range_with_len (number + 1) (16 - (number + 1))
 range_on number h =

@@ -1,6 +1,6 @@
 //! What the types of file systems and their sources offer to a mount.
 
-ghost use Rattle.std.specs.Prelude.{◌≡◌, ◌∷◌, [], ◌++◌, map, codes, ◌≤◌, cond, is_some, slice_index_or, IfOk, OnOk, OnErr};
+ghost use Rattle.std.specs.Prelude.{◌≡◌, ◌∷◌, [], ◌++◌, map, ◌≤◌, cond, is_some, slice_index_or, IfOk, OnOk};
 ghost use Rattle.std.specs.FinMap.Entries.{put};
 ghost use Rattle.vfs_base.specs.Path.{path_cmp};
 ghost use Rattle.vfs_model.specs.Content.{content_of, device_content, file_count, fs_type_of, kept_origin, no_rom, rom_origin};

@@ -1,13 +1,10 @@
 //! Formatting a volume.
 
 ghost use Rattle.std.specs.Prelude.{◌≡◌, [], ◌<◌, OnOk, OnErr, length, replicate, slice_index_or, slice_set, true};
-ghost use Rattle.std.specs.List.{list_any};
 ghost use Rattle.vfs_base.specs.declared.reply.Reply.TheVariants as reply;
 ghost use Rattle.vfs_model.specs.FileLife.{no_volume, volume_named};
-ghost use Rattle.vfs_model.specs.Namespace.{same_bytes};
 ghost use Rattle.vfs_model.specs.UmountSteps.{format_volume, mkfs_step};
 ghost use Rattle.vfs_model.specs.Gives.{Gives};
-ghost use Rattle.plain_nodes.specs.Sizes.{IsSized};
 
 use plain_nodes::sources::{has_volume, is_mounted, volume_named};
 use std::alloc::Global;
@@ -21,7 +18,6 @@ use vfs_model::{Namespace, Stop, VolumeState, refuse_when};
 pub fn mkfs(namespace: &mut Namespace, alloc: Global, name: &Bytes) -> Result<(), Stop>
     ensures told { Gives (λ _. record { reply = reply.Done; next = namespace.new; changes = [] }) result (mkfs_step namespace.old name.now) }
     ensures err { OnErr result (namespace.new ≡ namespace.old) }
-    ensures sized { IsSized namespace.old → IsSized namespace.new }
 {
     refuse_when(
         Errno::ENXIO,
@@ -36,11 +32,9 @@ pub fn mkfs(namespace: &mut Namespace, alloc: Global, name: &Bytes) -> Result<()
 }
 
 // Takes all names from the volume of this name, so that each of its cells is spare.
-#[tactic(auto, using(crate::proofs::SizedUnmounts::sized_format))]
 fn format_volume(namespace: &mut Namespace, alloc: Global, name: &[u8]) -> Result<(), NoMemory>
     ensures ok { OnOk result (namespace.new ≡ format_volume namespace.old (volume_named namespace.old name.now)) }
     ensures err { OnErr result (namespace.new ≡ namespace.old) }
-    ensures sized { IsSized namespace.old → IsSized namespace.new }
 {
     let place = volume_named(namespace, name);
     format_at(&mut namespace.volumes, alloc, place)

@@ -1,6 +1,6 @@
 //! Mounts that leave: their names, rows and nodes go, and no memory is wanted.
 
-ghost use Rattle.std.specs.Prelude.{◌≡◌, ◌==◌, ◌∷◌, [], ◌++◌, ◌+◌, ◌-◌, ◌<◌, ◌≤◌, not, length, map, filter, fold, drop, slice_index_or, slice_set, vec_len, vec_capacity, IfOk, if◌then◌else◌};
+ghost use Rattle.std.specs.Prelude.{◌≡◌, ◌==◌, [], ◌+◌, ◌-◌, ◌<◌, ◌≤◌, not, length, map, filter, fold, drop, slice_index_or, slice_set, vec_len, vec_capacity, IfOk, if◌then◌else◌};
 ghost use Rattle.vfs_model.specs.FileLife.{backing_of, end_of_unmounted, free_row, no_volume, volume_named};
 ghost use Rattle.vfs_model.specs.Lookup.{with_tree};
 ghost use Rattle.vfs_model.specs.Namespace.{life_at, tree_of};

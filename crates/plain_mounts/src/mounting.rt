@@ -1,6 +1,6 @@
 //! Mounting a file system.
 
-ghost use Rattle.std.specs.Prelude.{◌≡◌, ◌==◌, ◌&&◌, ◌||◌, ◌+◌, ◌<◌, ◌≤◌, ◌++◌, ◌∷◌, [], not, cond, length, map, nat_le, List, vec_len, vec_capacity, IfOk, OnOk, OnErr};
+ghost use Rattle.std.specs.Prelude.{◌≡◌, ◌==◌, ◌&&◌, ◌||◌, ◌+◌, ◌<◌, ◌≤◌, ◌++◌, ◌∷◌, [], cond, length, map, nat_le, List, vec_len, vec_capacity, IfOk, OnOk, OnErr};
 ghost use Rattle.std.specs.List.{list_any};
 ghost use Rattle.vfs_base.specs.declared.kinds.FsType.TheVariants as fs_type;
 ghost use Rattle.vfs_base.specs.declared.reply.Reply.TheVariants as reply;
@@ -14,7 +14,7 @@ ghost use Rattle.plain_nodes.specs.Changes.{row_change};
 ghost use Rattle.vfs_model.specs.Gives.{Gives};
 ghost use Rattle.plain_nodes.specs.Contents.{contents_of};
 ghost use Rattle.plain_mounts.specs.Mounting.{brought_by, free_count, free_in, with_mount};
-ghost use Rattle.plain_nodes.specs.Sizes.{IsSized};
+ghost use Rattle.vfs_model.specs.Sizes.{IsSized};
 
 use crate::binding::add_entries;
 use crate::content::{Content, brought_by, content_of, file_count, fs_type_of};
@@ -210,7 +210,6 @@ pub fn mount(
     ensures told { Gives (λ mounted. record { reply = reply.Done; next = namespace.new; changes = map row_change mounted.changes }) result (mount_step namespace.old session source.now point.now fs.now) }
     ensures err { OnErr result (namespace.new ≡ namespace.old) }
     ensures roms { namespace.new.roms ≡ namespace.old.roms }
-    ensures sized { IsSized namespace.new }
 {
     mount_source(namespace, alloc, session, source, point, fs)
 }

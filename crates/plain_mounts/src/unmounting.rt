@@ -6,12 +6,12 @@ ghost use Rattle.std.specs.Option.{option_copied};
 ghost use Rattle.vfs_base.specs.Path.{AllAre};
 ghost use Rattle.vfs_base.specs.declared.reply.Reply.TheVariants as reply;
 ghost use Rattle.vfs_model.specs.Lookup.{covering_mount, has_mount_below};
-ghost use Rattle.vfs_model.specs.Namespace.{same_path, tree_of};
+ghost use Rattle.vfs_model.specs.Namespace.{same_path};
 ghost use Rattle.vfs_model.specs.UmountSteps.{is_busy, mount_at_point, refers_to_mount, remove_all, remove_mount, umount_step};
 ghost use Rattle.plain_nodes.specs.Changes.{brings_no_bytes, row_change};
 ghost use Rattle.vfs_model.specs.Gives.{Gives};
 ghost use Rattle.plain_mounts.specs.Leaving.{live_count, rows_so_far, TreesShrink};
-ghost use Rattle.plain_nodes.specs.Sizes.{IsSized};
+ghost use Rattle.vfs_model.specs.Sizes.{IsSized};
 ghost use Rattle.plain_mounts.specs.Unmounting.{HasRoom, umount_refusals};
 
 use crate::leaving::{Leaving, empty_mount, make_leaving, remove_mount};
@@ -94,7 +94,6 @@ pub fn umount(
     ensures told { Gives (λ changes. record { reply = reply.Done; next = namespace.new; changes = map row_change changes }) result (umount_step namespace.old session point.now) }
     ensures plain { IfOk result (λ changes. list_all brings_no_bytes changes ≡ true) }
     ensures err { OnErr result (namespace.new ≡ namespace.old) }
-    ensures sized { IsSized namespace.new }
 {
     unmount_point(namespace, alloc, session, point)
 }
@@ -170,7 +169,6 @@ pub fn unmount_all(namespace: &mut Namespace, alloc: Global) -> Result<List<Chan
         ≡ record { next = namespace.new; changes = map row_change changes }) }
     ensures plain { IfOk result (λ changes. list_all brings_no_bytes changes ≡ true) }
     ensures err { OnErr result (namespace.new ≡ namespace.old) }
-    ensures sized { IsSized namespace.new }
 {
     unmount_each(namespace, alloc)
 }

@@ -1,4 +1,3 @@
 pub mod Filters
 pub mod Made
 pub mod Moves
-pub mod SizedNames

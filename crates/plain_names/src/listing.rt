@@ -1,13 +1,11 @@
 //! What is in a folder, and the working directories of sessions.
 
-ghost use Rattle.std.specs.Prelude.{◌≡◌, ◌≤◌, ◌∷◌, ◌++◌, [], Ok, OnOk, OnErr, IfOk, length, slice_set};
-ghost use Rattle.vfs_base.specs.Path.{printed};
+ghost use Rattle.std.specs.Prelude.{◌≡◌, ◌∷◌, ◌++◌, [], Ok, OnOk, OnErr, IfOk, slice_set};
 ghost use Rattle.vfs_base.specs.declared.reply.Reply.TheVariants as reply;
 ghost use Rattle.vfs_model.specs.NameSteps.{chdir_step, cwd_step, entries_at, folder_refusals, home_step, is_entry_of, list_step};
-ghost use Rattle.vfs_model.specs.Namespace.{folder_of, with_folder_of};
+ghost use Rattle.vfs_model.specs.Namespace.{with_folder_of};
 ghost use Rattle.vfs_model.specs.Gives.{Gives};
 ghost use Rattle.plain_names.specs.Listing.{entries_in};
-ghost use Rattle.plain_nodes.specs.Sizes.{IsSized};
 
 use plain_nodes::asking::asked_path;
 use plain_nodes::lookup::{covering_mount, is_file, is_there, rest_of, tree_of, walk_refusal};
@@ -103,9 +101,7 @@ pub fn chdir(
     path: &Bytes,
 ) -> Result<Path, Stop>
     ensures told { Gives (λ at. record { reply = reply.At at; next = namespace.new; changes = [] }) result (chdir_step namespace.old session path.now) }
-    ensures short { IfOk result (λ at. length (printed at) ≤ 1024) }
     ensures err { OnErr result (namespace.new ≡ namespace.old) }
-    ensures sized { IsSized namespace.old → IsSized namespace.new }
 {
     let path = asked_path(namespace, alloc, session, path)?;
     folder_refusals(namespace, path.as_names())?;
@@ -115,11 +111,9 @@ pub fn chdir(
 }
 
 /// Makes `/` the session's working directory.
-#[tactic(auto, using(crate::proofs::SizedNames::sized_folder))]
 pub fn home(namespace: &mut Namespace, session: SessionId)
     ensures told { home_step namespace.old session
         ≡ Ok (record { reply = reply.Done; next = namespace.new; changes = [] }) }
-    ensures sized { IsSized namespace.old → IsSized namespace.new }
 {
     clear_folder(&mut namespace.working_directories, session.place());
 }
@@ -133,11 +127,8 @@ fn clear_folder(working_directories: &mut List<Path>, place: usize)
     }
 }
 
-#[tactic(auto, using(crate::proofs::SizedNames::sized_folder))]
 fn set_folder(namespace: &mut Namespace, session: SessionId, path: Path)
-    requires { length (printed path) ≤ 1024 }
     ensures next { namespace.new ≡ with_folder_of namespace.old session path }
-    ensures sized { IsSized namespace.old → IsSized namespace.new }
 {
     let place = session.place();
     namespace.working_directories.set(place, path);
@@ -147,7 +138,6 @@ fn set_folder(namespace: &mut Namespace, session: SessionId, path: Path)
 pub fn cwd(namespace: &Namespace, alloc: Global, session: SessionId) -> Result<Path, NoMemory>
     ensures told { IfOk result (λ at. cwd_step namespace.now session
         ≡ Ok (record { reply = reply.At at; next = namespace.now; changes = [] })) }
-    ensures short { IfOk result (λ at. IsSized namespace.now → length (printed at) ≤ 1024) }
 {
     let place = session.place();
     match namespace.working_directories.as_slice().get(place) {

@@ -6,7 +6,6 @@ ghost use Rattle.vfs_model.specs.Lookup.{covering_mount};
 ghost use Rattle.vfs_model.specs.RenameStep.{carried, left_behind, move_refusals, moved, put_entry, rename_refusals, rename_step, with_moved};
 ghost use Rattle.plain_nodes.specs.Changes.{brings_nothing, row_changes};
 ghost use Rattle.vfs_model.specs.Gives.{Gives};
-ghost use Rattle.plain_nodes.specs.Sizes.{IsSized};
 
 use crate::naming::free_lost;
 use plain_nodes::asking::asked_path;
@@ -35,7 +34,6 @@ pub fn rename(
     ensures told { Gives (λ change. record { reply = reply.Done; next = namespace.new; changes = row_changes change }) result (rename_step namespace.old session old.now new.now) }
     ensures plain { IfOk result (λ change. brings_nothing change ≡ true) }
     ensures err { OnErr result (namespace.new ≡ namespace.old) }
-    ensures sized { IsSized namespace.old → IsSized namespace.new }
 {
     let old = asked_path(namespace, alloc, session, old)?;
     let new = asked_path(namespace, alloc, session, new)?;
@@ -95,7 +93,7 @@ fn move_refusals(namespace: &Namespace, old: &[Name], new: &[Name]) -> Result<()
     refuse_when(Errno::EBUSY, is_working_directory(namespace, new))
 }
 
-#[tactic(auto, using(crate::proofs::SizedNames::sized_moved), unfolding(vfs_model::specs::RenameStep::with_moved))]
+#[tactic(auto, unfolding(vfs_model::specs::RenameStep::with_moved))]
 fn move_nodes(
     namespace: &mut Namespace,
     alloc: Global,
@@ -104,7 +102,6 @@ fn move_nodes(
 ) -> Result<(), NoMemory>
     ensures ok { OnOk result (namespace.new ≡ with_moved namespace.old old.now new.now) }
     ensures err { OnErr result (namespace.new ≡ namespace.old) }
-    ensures sized { IsSized namespace.old → IsSized namespace.new }
 {
     let number = covering_mount(namespace, old).number;
     let old = rest_of(namespace, old);

@@ -7,7 +7,6 @@ ghost use Rattle.vfs_model.specs.Lookup.{is_full};
 ghost use Rattle.vfs_model.specs.NameSteps.{after_loss, mkdir_refusals, mkdir_step, rmdir_refusals, rmdir_step, stat_step, unlink_refusals, unlink_step};
 ghost use Rattle.plain_nodes.specs.Changes.{brings_nothing, row_changes};
 ghost use Rattle.vfs_model.specs.Gives.{Gives};
-ghost use Rattle.plain_nodes.specs.Sizes.{IsSized};
 
 use plain_nodes::asking::asked_path;
 use plain_nodes::changes::Change;
@@ -44,7 +43,6 @@ pub fn mkdir(
 ) -> Result<(), Stop>
     ensures told { Gives (λ _. record { reply = reply.Done; next = namespace.new; changes = [] }) result (mkdir_step namespace.old session path.now) }
     ensures err { OnErr result (namespace.new ≡ namespace.old) }
-    ensures sized { IsSized namespace.old → IsSized namespace.new }
 {
     let path = asked_path(namespace, alloc, session, path)?;
     mkdir_refusals(namespace, path.as_names())?;
@@ -72,7 +70,6 @@ pub fn rmdir(
 ) -> Result<(), Stop>
     ensures told { Gives (λ _. record { reply = reply.Done; next = namespace.new; changes = [] }) result (rmdir_step namespace.old session path.now) }
     ensures err { OnErr result (namespace.new ≡ namespace.old) }
-    ensures sized { IsSized namespace.old → IsSized namespace.new }
 {
     let path = asked_path(namespace, alloc, session, path)?;
     rmdir_refusals(namespace, path.as_names())?;
@@ -104,7 +101,6 @@ pub fn unlink(
     ensures told { Gives (λ change. record { reply = reply.Done; next = namespace.new; changes = row_changes change }) result (unlink_step namespace.old session path.now) }
     ensures plain { IfOk result (λ change. brings_nothing change ≡ true) }
     ensures err { OnErr result (namespace.new ≡ namespace.old) }
-    ensures sized { IsSized namespace.old → IsSized namespace.new }
 {
     let path = asked_path(namespace, alloc, session, path)?;
     unlink_refusals(namespace, path.as_names())?;
@@ -128,7 +124,6 @@ pub fn free_lost(namespace: &mut Namespace, node: Option<NodeKind>) -> Option<Ch
     ensures next { after_loss namespace.old node
         ≡ record { next = namespace.new; changes = row_changes result } }
     ensures plain { brings_nothing result ≡ true }
-    ensures sized { IsSized namespace.old → IsSized namespace.new }
 {
     match node {
         Some(NodeKind::File { file, .. }) => free_if_unused(namespace, file.row),

@@ -1,15 +1,14 @@
 //! Opening files, and making them.
 
-ghost use Rattle.std.specs.Prelude.{◌≡◌, true, ◌≤◌, ◌<◌, ◌∷◌, ◌&&◌, ◌||◌, [], Some, not, false, length, IfOk, OnOk, OnErr};
+ghost use Rattle.std.specs.Prelude.{◌≡◌, true, ◌<◌, ◌∷◌, ◌&&◌, ◌||◌, [], Some, not, false, IfOk, OnOk, OnErr};
 ghost use Rattle.std.specs.List.{position_or_len};
 ghost use Rattle.vfs_model.specs.FileLife.{volume_at, volume_named};
 ghost use Rattle.vfs_model.specs.Lookup.{covering_mount, is_file, is_read_only, is_there, node_at};
 ghost use Rattle.vfs_model.specs.Namespace.{with_reference};
 ghost use Rattle.vfs_model.specs.OpenStep.{creates, least_free_number, open_at, for_reading, for_writing, has_no_room, is_exclusive, is_rom_node, is_without_cell, kind_of, least_spare_cell, make_file, new_backing, new_life, new_origin, open_refusals, open_step, truncates, with_file_at};
-ghost use Rattle.vfs_model.specs.StepForms.{TellsFolder};
 ghost use Rattle.plain_nodes.specs.Changes.{brings_no_bytes, brings_nothing, is_no_rom, row_change, row_changes};
 ghost use Rattle.vfs_model.specs.Gives.{Gives};
-ghost use Rattle.plain_nodes.specs.Sizes.{IsSized};
+ghost use Rattle.vfs_model.specs.Sizes.{IsSized};
 
 use crate::references::{least_free_number, set_reference};
 use bitflags::Flags;
@@ -41,10 +40,8 @@ pub fn open(
 ) -> Result<(Reply, Option<Change>), Stop>
     requires sized { IsSized namespace.old }
     ensures told { Gives (λ opened. record { reply = opened.0; next = namespace.new; changes = row_changes opened.1 }) result (open_step namespace.old session path.now flags) }
-    ensures folder { IfOk result (λ opened. TellsFolder opened.0) }
     ensures plain { IfOk result (λ opened. brings_nothing opened.1 ≡ true) }
     ensures err { OnErr result (namespace.new ≡ namespace.old) }
-    ensures sized { IsSized namespace.new }
 {
     let path = asked_path(namespace, alloc, session, path)?;
     open_at(namespace, alloc, session, path.as_names(), flags)
@@ -60,10 +57,8 @@ fn open_at(
 ) -> Result<(Reply, Option<Change>), Stop>
     requires sized { IsSized namespace.old }
     ensures told { Gives (λ opened. record { reply = opened.0; next = namespace.new; changes = row_changes opened.1 }) result (open_at namespace.old session path.now flags) }
-    ensures folder { IfOk result (λ opened. TellsFolder opened.0) }
     ensures plain { IfOk result (λ opened. brings_nothing opened.1 ≡ true) }
     ensures err { OnErr result (namespace.new ≡ namespace.old) }
-    ensures sized { IsSized namespace.new }
 {
     open_refusals(namespace, session, path, flags)?;
     let change = make_missing(namespace, alloc, path)?;
@@ -201,7 +196,6 @@ fn make_missing(
     ensures plain { IfOk result (λ change. brings_nothing change ≡ true) }
     ensures kept { OnOk result (is_file namespace.new path.now ≡ false → namespace.new ≡ namespace.old) }
     ensures err { OnErr result (namespace.new ≡ namespace.old) }
-    ensures sized { IsSized namespace.new }
 {
     if is_there(namespace, path) {
         return Ok(None);
@@ -218,7 +212,6 @@ fn make_file(namespace: &mut Namespace, alloc: Global, path: &[Name]) -> Result<
     ensures plain { IfOk result (λ change. brings_no_bytes change ≡ true) }
     ensures number { (covering_mount namespace.old path.now).number < 16 }
     ensures err { OnErr result (namespace.new ≡ namespace.old) }
-    ensures sized { IsSized namespace.new }
 {
     let Some(row) = least_free_row(namespace) else {
         unreachable!();
@@ -287,7 +280,6 @@ fn refer_to(
     kind: Kind,
 ) -> HoldId
     ensures hold { result ≡ record { session = session; number = least_free_number namespace.old session } }
-    ensures sized { IsSized namespace.old → IsSized namespace.new }
     ensures next { namespace.new ≡ with_reference namespace.old session (least_free_number namespace.old session) (Some (record { role = Role.Open; file = file.now; kind = kind; mount = (covering_mount namespace.old path.now).number })) }
 {
     let number = least_free_number(namespace, session);

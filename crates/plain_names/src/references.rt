@@ -9,7 +9,6 @@ ghost use Rattle.vfs_model.specs.OpenStep.{least_free_number};
 ghost use Rattle.vfs_model.specs.ReferenceSteps.{give_up_step, in_role, is_device_kind, map_step, reference_at, same_role};
 ghost use Rattle.plain_nodes.specs.Changes.{brings_nothing, row_changes};
 ghost use Rattle.vfs_model.specs.Gives.{Tells};
-ghost use Rattle.plain_nodes.specs.Sizes.{IsSized};
 
 use plain_nodes::changes::Change;
 use plain_nodes::rows::free_if_unused;
@@ -51,7 +50,6 @@ fn first_empty(references: &[Option<Reference>]) -> u8
 }
 
 /// What stands at a number of a session's references from now on.
-#[tactic(auto, using(crate::proofs::SizedNames::sized_reference))]
 pub fn set_reference(
     namespace: &mut Namespace,
     session: SessionId,
@@ -59,7 +57,6 @@ pub fn set_reference(
     reference: Option<Reference>,
 )
     ensures next { namespace.new ≡ with_reference namespace.old session number reference }
-    ensures sized { IsSized namespace.old → IsSized namespace.new }
 {
     let first = HOLDS * session.place();
     let place = first + (number as usize).saturating_sub(1);
@@ -131,7 +128,6 @@ pub fn give_up(
     ensures told { Tells (λ change. record { reply = reply.Done; next = namespace.new; changes = row_changes change }) result (give_up_step role.now namespace.old session hold.now) }
     ensures plain { IfOk result (λ change. brings_nothing change ≡ true) }
     ensures err { OnErr result (namespace.new ≡ namespace.old) }
-    ensures sized { IsSized namespace.old → IsSized namespace.new }
 {
     let Some(row) = row_at(namespace, session, hold, role) else {
         return Err(Errno::EBADF);
@@ -148,7 +144,6 @@ pub fn give_up(
 pub fn map(namespace: &mut Namespace, session: SessionId, hold: &HoldId) -> Result<HoldId, Errno>
     ensures told { Tells (λ held. record { reply = reply.Held held; next = namespace.new; changes = [] }) result (map_step namespace.old session hold.now) }
     ensures err { OnErr result (namespace.new ≡ namespace.old) }
-    ensures sized { IsSized namespace.old → IsSized namespace.new }
 {
     let Some(opened) = reference_at(namespace, session, hold, &Role::Open) else {
         return Err(Errno::EBADF);

@@ -3,11 +3,10 @@
 //! A path is refused first by its text, which is its fault: `ENOENT` for no byte, `EINVAL` for a zero
 //! byte, `ENAMETOOLONG` for a name above 255 bytes or a path above 1024.
 
-ghost use Rattle.std.specs.Prelude.{◌≡◌, Ok, IfOk, OnErr};
-ghost use Rattle.vfs_model.specs.StepForms.{TellsFolder};
+ghost use Rattle.std.specs.Prelude.{◌≡◌, Ok, OnErr};
 ghost use Rattle.vfs_base.specs.declared.step.Step.TheVariants as step;
 ghost use Rattle.vfs_model.specs.Gives.{Gives};
-ghost use Rattle.plain_nodes.specs.Sizes.{IsSized};
+ghost use Rattle.vfs_model.specs.Sizes.{IsSized};
 ghost use Rattle.plain_nodes.specs.WorldAnswer.{leaving, world_answer};
 
 use crate::listing::{chdir, cwd, home, list};
@@ -31,7 +30,6 @@ pub fn stat_in(
     path: &Bytes,
 ) -> Result<Reply, Stop>
     ensures told { Gives (leaving world.now) result (world_answer world.now session (step.Stat path.now)) }
-    ensures folder { IfOk result TellsFolder }
 {
     let node = stat(&world.namespace, alloc, session, path)?;
     Ok(Reply::Node { node })
@@ -48,7 +46,6 @@ pub fn list_in(
     path: &Bytes,
 ) -> Result<Reply, Stop>
     ensures told { Gives (leaving world.now) result (world_answer world.now session (step.List path.now)) }
-    ensures folder { IfOk result TellsFolder }
 {
     let (path, entries) = list(&world.namespace, alloc, session, path)?;
     Ok(Reply::Listing { path, entries })
@@ -57,7 +54,6 @@ pub fn list_in(
 /// The session's working directory (POSIX.1-2017, getcwd). Nothing refuses it.
 pub fn cwd_in(world: &WorldState, alloc: Global, session: SessionId) -> Result<Reply, Stop>
     ensures told { Gives (leaving world.now) result (world_answer world.now session step.Cwd) }
-    ensures folder { IsSized world.now.namespace → IfOk result TellsFolder }
 {
     let path = cwd(&world.namespace, alloc, session)?;
     Ok(Reply::At { path })
@@ -75,9 +71,7 @@ pub fn mkdir_in(
     path: &Bytes,
 ) -> Result<Reply, Stop>
     ensures told { Gives (leaving world.new) result (world_answer world.old session (step.Mkdir path.now)) }
-    ensures folder { IfOk result TellsFolder }
     ensures err { OnErr result (world.new ≡ world.old) }
-    ensures sized { IsSized world.old.namespace → IsSized world.new.namespace }
 {
     mkdir(&mut world.namespace, alloc, session, path)?;
     Ok(Reply::Done)
@@ -95,9 +89,7 @@ pub fn rmdir_in(
     path: &Bytes,
 ) -> Result<Reply, Stop>
     ensures told { Gives (leaving world.new) result (world_answer world.old session (step.Rmdir path.now)) }
-    ensures folder { IfOk result TellsFolder }
     ensures err { OnErr result (world.new ≡ world.old) }
-    ensures sized { IsSized world.old.namespace → IsSized world.new.namespace }
 {
     rmdir(&mut world.namespace, alloc, session, path)?;
     Ok(Reply::Done)
@@ -115,9 +107,7 @@ pub fn unlink_in(
     path: &Bytes,
 ) -> Result<Reply, Stop>
     ensures told { Gives (leaving world.new) result (world_answer world.old session (step.Unlink path.now)) }
-    ensures folder { IfOk result TellsFolder }
     ensures err { OnErr result (world.new ≡ world.old) }
-    ensures sized { IsSized world.old.namespace → IsSized world.new.namespace }
 {
     let change = unlink(&mut world.namespace, alloc, session, path)?;
     apply(world, change);
@@ -141,9 +131,7 @@ pub fn rename_in(
     new: &Bytes,
 ) -> Result<Reply, Stop>
     ensures told { Gives (leaving world.new) result (world_answer world.old session (step.Rename old.now new.now)) }
-    ensures folder { IfOk result TellsFolder }
     ensures err { OnErr result (world.new ≡ world.old) }
-    ensures sized { IsSized world.old.namespace → IsSized world.new.namespace }
 {
     let change = rename(&mut world.namespace, alloc, session, old, new)?;
     apply(world, change);
@@ -162,9 +150,7 @@ pub fn chdir_in(
     path: &Bytes,
 ) -> Result<Reply, Stop>
     ensures told { Gives (leaving world.new) result (world_answer world.old session (step.Chdir path.now)) }
-    ensures folder { IfOk result TellsFolder }
     ensures err { OnErr result (world.new ≡ world.old) }
-    ensures sized { IsSized world.old.namespace → IsSized world.new.namespace }
 {
     let path = chdir(&mut world.namespace, alloc, session, path)?;
     Ok(Reply::At { path })
@@ -173,8 +159,6 @@ pub fn chdir_in(
 /// Makes `/` the session's working directory. Nothing refuses it.
 pub fn home_in(world: &mut WorldState, session: SessionId) -> Reply
     ensures told { world_answer world.old session step.Home ≡ Ok (leaving world.new result) }
-    ensures folder { TellsFolder result }
-    ensures sized { IsSized world.old.namespace → IsSized world.new.namespace }
 {
     home(&mut world.namespace, session);
     Reply::Done
@@ -196,9 +180,7 @@ pub fn open_in(
 ) -> Result<Reply, Stop>
     requires { IsSized world.old.namespace }
     ensures told { Gives (leaving world.new) result (world_answer world.old session (step.Open path.now flags)) }
-    ensures folder { IfOk result TellsFolder }
     ensures err { OnErr result (world.new ≡ world.old) }
-    ensures sized { IsSized world.new.namespace }
 {
     let (reply, change) = open(&mut world.namespace, alloc, session, path, flags)?;
     apply(world, change);
@@ -211,9 +193,7 @@ pub fn open_in(
 /// `EBADF` where the session has no such open file.
 pub fn close_in(world: &mut WorldState, session: SessionId, hold: &HoldId) -> Result<Reply, Stop>
     ensures told { Gives (leaving world.new) result (world_answer world.old session (step.Close hold.now)) }
-    ensures folder { IfOk result TellsFolder }
     ensures err { OnErr result (world.new ≡ world.old) }
-    ensures sized { IsSized world.old.namespace → IsSized world.new.namespace }
 {
     let change = give_up(&mut world.namespace, session, hold, &Role::Open)?;
     apply(world, change);
@@ -226,9 +206,7 @@ pub fn close_in(world: &mut WorldState, session: SessionId, hold: &HoldId) -> Re
 /// `EBADF` where the session has no such mapping.
 pub fn unmap_in(world: &mut WorldState, session: SessionId, hold: &HoldId) -> Result<Reply, Stop>
     ensures told { Gives (leaving world.new) result (world_answer world.old session (step.Unmap hold.now)) }
-    ensures folder { IfOk result TellsFolder }
     ensures err { OnErr result (world.new ≡ world.old) }
-    ensures sized { IsSized world.old.namespace → IsSized world.new.namespace }
 {
     let change = give_up(&mut world.namespace, session, hold, &Role::Map)?;
     apply(world, change);
@@ -242,9 +220,7 @@ pub fn unmap_in(world: &mut WorldState, session: SessionId, hold: &HoldId) -> Re
 /// session with 32 references.
 pub fn map_in(world: &mut WorldState, session: SessionId, hold: &HoldId) -> Result<Reply, Stop>
     ensures told { Gives (leaving world.new) result (world_answer world.old session (step.Map hold.now)) }
-    ensures folder { IfOk result TellsFolder }
     ensures err { OnErr result (world.new ≡ world.old) }
-    ensures sized { IsSized world.old.namespace → IsSized world.new.namespace }
 {
     let hold = map(&mut world.namespace, session, hold)?;
     Ok(Reply::Held { hold })

@@ -2,5 +2,4 @@ pub mod Changes
 pub mod Contents
 pub mod Puts
 pub mod Rows
-pub mod Sizes
 pub mod WorldAnswer

@@ -1,10 +1,8 @@
 //! The paths that sessions ask for.
 
-ghost use Rattle.std.specs.Prelude.{◌≡◌, ◌≤◌, IfOk, length};
 ghost use Rattle.vfs_base.specs.Path.{printed};
 ghost use Rattle.vfs_model.specs.Lookup.{asked_path, or_errno};
 ghost use Rattle.vfs_model.specs.NormalPath.{normal_path};
-ghost use Rattle.vfs_model.specs.Namespace.{folder_of};
 ghost use Rattle.vfs_model.specs.Gives.{Gives, is_itself};
 
 use std::alloc::Global;
@@ -24,7 +22,6 @@ pub fn asked_path(
     text: &Bytes,
 ) -> Result<Path, Stop>
     ensures told { Gives is_itself result (asked_path namespace.now session text.now) }
-    ensures short { IfOk result (λ path. length (printed path) ≤ 1024) }
 {
     let place = session.place();
     match namespace.working_directories.as_slice().get(place) {
@@ -33,10 +30,8 @@ pub fn asked_path(
     }
 }
 
-#[tactic(auto, using(crate::proofs::ShortPaths::normal_short))]
 fn path_from(alloc: Global, folder: &Path, text: &Bytes) -> Result<Path, Stop>
     ensures told { Gives is_itself result (or_errno (normal_path folder.now text.now)) }
-    ensures short { IfOk result (λ path. length (printed path) ≤ 1024) }
 {
     match normalise(alloc, folder, text.as_slice()) {
         Ok(path) => Ok(path),

@@ -1,6 +1,6 @@
 //! What stands at a path: the mount that covers it, the node, and what lies above and below.
 
-ghost use Rattle.std.specs.Prelude.{◌≡◌, ◌&&◌, Some, None, is_some, nat_lt, length, if◌then◌else◌};
+ghost use Rattle.std.specs.Prelude.{◌≡◌, ◌&&◌, Some, None, nat_lt, length, if◌then◌else◌};
 ghost use Rattle.std.specs.List.{list_any};
 ghost use Rattle.vfs_model.specs.Lookup.{covering_mount, has_folder_within, has_mount_below, has_nodes, is_dir_node, is_file, is_file_node, is_folder, is_full, is_point, is_prefix, is_read_only, is_read_only_type, is_there, is_working_directory, is_below, node_at, prefix_refusal, rest_of, walk_refusal};
 ghost use Rattle.vfs_model.specs.Namespace.{same_path, tree_of};

@@ -1,12 +1,11 @@
 //! Nodes of the namespace that are put, taken away and moved.
 
-ghost use Rattle.std.specs.Prelude.{◌≡◌, [], false, filter, not, slice_index_or, slice_set, OnOk, OnErr};
+ghost use Rattle.std.specs.Prelude.{◌≡◌, [], filter, not, OnOk, OnErr};
 ghost use Rattle.std.specs.FinMap.Entries.{put};
 ghost use Rattle.vfs_base.specs.Path.{path_cmp};
-ghost use Rattle.vfs_model.specs.Lookup.{is_full, with_node, with_tree};
+ghost use Rattle.vfs_model.specs.Lookup.{with_node, with_tree};
 ghost use Rattle.vfs_model.specs.NameSteps.{without_node};
 ghost use Rattle.vfs_model.specs.Namespace.{same_path, tree_of};
-ghost use Rattle.plain_nodes.specs.Sizes.{IsSized};
 
 use crate::lookup::{covering_mount, rest_of};
 use crate::paths::path_of;
@@ -51,7 +50,7 @@ pub fn put_in_tree(
 }
 
 /// Puts a node at the path.
-#[tactic(auto, using(crate::proofs::Sized::sized_put), unfolding(vfs_model::specs::Lookup::with_node))]
+#[tactic(auto, unfolding(vfs_model::specs::Lookup::with_node))]
 pub fn put_node(
     namespace: &mut Namespace,
     alloc: Global,
@@ -60,7 +59,6 @@ pub fn put_node(
 ) -> Result<(), NoMemory>
     ensures ok { OnOk result (namespace.new ≡ with_node namespace.old path.now node) }
     ensures err { OnErr result (namespace.new ≡ namespace.old) }
-    ensures sized { IsSized namespace.old → is_full namespace.old path.now ≡ false → IsSized namespace.new }
 {
     let number = covering_mount(namespace, path).number;
     let rest = path_of(alloc, rest_of(namespace, path))?;
@@ -72,7 +70,6 @@ pub fn put_node(
 fn remove_in_tree(namespace: &mut Namespace, number: MountId, path: &[Name])
     ensures next { namespace.new ≡ with_tree namespace.old number
         (filter (λ entry. not (same_path entry.0 path.now)) (tree_of namespace.old number)) }
-    ensures sized { IsSized namespace.old → IsSized namespace.new }
 {
     let mut tree = take_tree(namespace, number);
     remove_entry(&mut tree, path);
@@ -83,7 +80,6 @@ fn remove_in_tree(namespace: &mut Namespace, number: MountId, path: &[Name])
 #[tactic(auto, unfolding(vfs_model::specs::NameSteps::without_node))]
 pub fn remove_node(namespace: &mut Namespace, path: &[Name])
     ensures next { namespace.new ≡ without_node namespace.old path.now }
-    ensures sized { IsSized namespace.old → IsSized namespace.new }
 {
     let number = covering_mount(namespace, path).number;
     let rest = rest_of(namespace, path);

@@ -1,14 +1,12 @@
 //! Rows: which are free, how they are bound and freed, and what keeps a file alive.
 
-ghost use Rattle.std.specs.Prelude.{true, ◌≡◌, ◌+◌, ◌<◌, ◌≤◌, is_none, nat_lt, IfSome, [], slice_index_or, slice_set};
-ghost use Rattle.std.specs.List.{list_any};
+ghost use Rattle.std.specs.Prelude.{true, ◌≡◌, ◌+◌, ◌<◌, ◌≤◌, is_none, nat_lt, IfSome, slice_index_or, slice_set};
 ghost use Rattle.vfs_base.specs.declared.limits.TheConstants.{ROWS};
-ghost use Rattle.vfs_model.specs.FileLife.{Rows, after_end, after_taking, backing_of, bind_row, end_of_dropped, free_if_unused, has_row, no_device, no_volume, with_device, with_spare_cell, is_file_of_row, is_free_row, is_held, is_linked, least_free_row, refers_to};
+ghost use Rattle.vfs_model.specs.FileLife.{Rows, after_end, after_taking, backing_of, bind_row, end_of_dropped, free_if_unused, has_row, no_device, no_volume, with_spare_cell, is_file_of_row, is_free_row, is_held, is_linked, least_free_row, refers_to};
 ghost use Rattle.vfs_model.specs.Namespace.{file_of, generation_at, life_at};
 ghost use Rattle.vfs_model.specs.declared.namespace.RowChange.TheVariants as change;
 ghost use Rattle.plain_nodes.specs.Changes.{brings_nothing, freed, row_change, row_changes};
 ghost use Rattle.plain_nodes.specs.Rows.{RowsMatch, first_free};
-ghost use Rattle.plain_nodes.specs.Sizes.{IsSized};
 
 use crate::changes::Change;
 use vfs_base::{FileId, Generation, List, NodeKind, Path, ROWS, RowId};
@@ -129,11 +127,10 @@ fn refers_to(row: RowId, reference: &Option<Reference>) -> bool
 }
 
 /// Binds the row, which is free, to this live file.
-#[tactic(auto, using(crate::proofs::Sized::sized_bind), unfolding(vfs_model::specs::FileLife::bind_row))]
+#[tactic(auto, unfolding(vfs_model::specs::FileLife::bind_row))]
 pub fn bind_row(namespace: &mut Namespace, row: RowId, life: LiveFile)
     requires { generation_at namespace.old row < 18446744073709551615 }
     ensures next { namespace.new ≡ bind_row namespace.old row life }
-    ensures sized { IsSized namespace.old → IsSized namespace.new }
 {
     let place = row.place();
     let generation = generation_at(namespace, row) + 1;
@@ -203,10 +200,8 @@ fn set_out(devices: &mut List<DeviceState>, device: usize, is_out: bool)
 }
 
 /// Frees the row, whose file comes to this end. The row keeps its generation.
-#[tactic(auto, using(crate::proofs::Sized::sized_freed))]
 pub fn free_row(namespace: &mut Namespace, row: RowId, end: End) -> Change
     ensures next { namespace.new ≡ freed namespace.old row end }
-    ensures sized { IsSized namespace.old → IsSized namespace.new }
     ensures told { row_change result ≡ change.Free (file_of namespace.old row) end }
 {
     let generation = generation_at(namespace, row);
@@ -251,7 +246,6 @@ pub fn free_if_unused(namespace: &mut Namespace, row: RowId) -> Option<Change>
     ensures next { free_if_unused namespace.old row
         ≡ record { next = namespace.new; changes = row_changes result } }
     ensures plain { brings_nothing result ≡ true }
-    ensures sized { IsSized namespace.old → IsSized namespace.new }
 {
     if is_linked(namespace, row) || is_held(namespace, row) {
         return None;

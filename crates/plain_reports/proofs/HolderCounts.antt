@@ -10,7 +10,7 @@ use Rattle.vfs_model.specs.Namespace.{all_mounts}
 use Rattle.vfs_model.specs.declared.namespace.Mount.{Mount}
 use Rattle.vfs_model.specs.declared.namespace.Namespace.{Namespace}
 use Rattle.vfs_model.specs.declared.namespace.Reference.{Reference}
-use Rattle.plain_nodes.specs.Sizes.{IsSized}
+use Rattle.vfs_model.specs.Sizes.{IsSized}
 
 filter_map_shrinks : {X Y : Type 0} (f : X → Option Y) (xs : List X) → length (filter_map f xs) ≤ length xs
 filter_map_shrinks f [] = omega arith

@@ -5,7 +5,7 @@ ghost use Rattle.std.specs.Option.{option_copied};
 ghost use Rattle.vfs_model.specs.FileLife.{is_file_of_row, is_linked};
 ghost use Rattle.vfs_model.specs.Holders.{holder_lines, holder_paths, nameless_row, nameless_rows, path_in_mount, path_line, paths_of_row, reference_paths, row_line};
 ghost use Rattle.vfs_model.specs.Namespace.{tree_of};
-ghost use Rattle.plain_nodes.specs.Sizes.{IsSized};
+ghost use Rattle.vfs_model.specs.Sizes.{IsSized};
 
 use crate::counting::counted;
 use plain_nodes::lookup::tree_of;

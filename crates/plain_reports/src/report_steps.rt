@@ -1,10 +1,8 @@
 //! The steps that list what there is.
 
-ghost use Rattle.std.specs.Prelude.{◌≡◌, IfOk};
-ghost use Rattle.vfs_model.specs.StepForms.{TellsFolder};
 ghost use Rattle.vfs_base.specs.declared.step.Step.TheVariants as step;
 ghost use Rattle.vfs_model.specs.Gives.{Gives};
-ghost use Rattle.plain_nodes.specs.Sizes.{IsSized};
+ghost use Rattle.vfs_model.specs.Sizes.{IsSized};
 ghost use Rattle.plain_nodes.specs.WorldAnswer.{leaving, world_answer};
 
 use crate::holders::holder_lines;
@@ -18,7 +16,6 @@ use vfs_model::{Stop, WorldState};
 pub fn mounts_in(world: &WorldState, alloc: Global, session: SessionId) -> Result<Reply, Stop>
     requires { IsSized world.now.namespace }
     ensures told { Gives (leaving world.now) result (world_answer world.now session step.Mounts) }
-    ensures folder { IfOk result TellsFolder }
 {
     let lines = mount_lines(&world.namespace, alloc)?;
     Ok(Reply::MountList { lines })
@@ -29,7 +26,6 @@ pub fn mounts_in(world: &WorldState, alloc: Global, session: SessionId) -> Resul
 pub fn dentries_in(world: &WorldState, alloc: Global, session: SessionId) -> Result<Reply, Stop>
     requires { IsSized world.now.namespace }
     ensures told { Gives (leaving world.now) result (world_answer world.now session step.Dentries) }
-    ensures folder { IfOk result TellsFolder }
 {
     let lines = holder_lines(&world.namespace, alloc)?;
     Ok(Reply::Holders { lines })
@@ -38,7 +34,6 @@ pub fn dentries_in(world: &WorldState, alloc: Global, session: SessionId) -> Res
 /// The files of mounted volumes that stand at a path, by slot. Nothing refuses it.
 pub fn cells_in(world: &WorldState, alloc: Global, session: SessionId) -> Result<Reply, Stop>
     ensures told { Gives (leaving world.now) result (world_answer world.now session step.Cells) }
-    ensures folder { IfOk result TellsFolder }
 {
     let files = cell_files(&world.namespace, alloc)?;
     Ok(Reply::Files { files })
@@ -48,7 +43,6 @@ pub fn cells_in(world: &WorldState, alloc: Global, session: SessionId) -> Result
 /// mounted. Nothing refuses it.
 pub fn devices_in(world: &WorldState, alloc: Global, session: SessionId) -> Result<Reply, Stop>
     ensures told { Gives (leaving world.now) result (world_answer world.now session step.Devices) }
-    ensures folder { IfOk result TellsFolder }
 {
     let lines = device_lines(&world.namespace, alloc)?;
     Ok(Reply::DeviceList { lines })

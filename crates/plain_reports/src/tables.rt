@@ -9,7 +9,7 @@ ghost use Rattle.vfs_base.specs.declared.reply.Reply.TheVariants as reply;
 ghost use Rattle.vfs_model.specs.Content.{is_mounted, same_type};
 ghost use Rattle.vfs_model.specs.Namespace.{all_mounts, tree_of};
 ghost use Rattle.vfs_model.specs.Tables.{by_row, cell_files, device_lines, file_of_node, mount_line, node_count, spare_count};
-ghost use Rattle.plain_nodes.specs.Sizes.{IsSized};
+ghost use Rattle.vfs_model.specs.Sizes.{IsSized};
 
 use plain_nodes::lookup::tree_of;
 use plain_nodes::sources::{is_mounted, same_type, volume_named};

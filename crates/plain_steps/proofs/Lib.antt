@@ -1,7 +1,7 @@
 pub mod Copies
 pub mod FileReplies
+pub mod KeptSizes
 pub mod RomLists
 pub mod RomTexts
-pub mod SizedStart
 pub mod Started
 pub mod WorldSteps

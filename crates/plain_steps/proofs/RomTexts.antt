@@ -11,7 +11,8 @@ use Rattle.vfs_model.specs.Rom.{RomItems}
 use Rattle.vfs_model.specs.ScriptRun.{rom_node}
 use Rattle.vfs_model.specs.declared.namespace.RomImage.{RomImage}
 use Rattle.vfs_model.specs.declared.namespace.RomNode.{RomNode}
-use Rattle.plain_steps.specs.Opening.{IsSmallRom, behind, image_before, rom_images, rom_nodes}
+use Rattle.vfs_model.specs.Sizes.{IsSmallRom}
+use Rattle.plain_steps.specs.Opening.{behind, image_before, rom_images, rom_nodes}
 
 image_on : (images : List RomImage) (index : ℕ) (name : List ℕ) (items : RomItems) (later : Result (List RomImage) ℕ) →
     behind (images ++ record { name = name; nodes = rom_nodes items } ∷ []) later ≡ behind images (image_before index name (Ok items) later)

@@ -1,14 +1,14 @@
 -- The roms of a script at the start, and what stops a world from being opened.
-use Rattle.std.specs.Prelude.{◌≡◌, ℕ, ◌+◌, ◌≤◌, Bool, true, false, is_none, Some, None, List, [], ◌∷◌, ◌++◌, length, map, Result, Ok, Err}
+use Rattle.std.specs.Prelude.{◌≡◌, ℕ, ◌+◌, Bool, true, false, is_none, Some, None, List, [], ◌∷◌, ◌++◌, map, Result, Ok, Err}
 use Rattle.std.specs.List.{list_any}
 use Rattle.vfs_base.specs.Path.{Path, AllAre}
 use Rattle.vfs_base.specs.declared.deck.Deck.{Deck}
 use Rattle.vfs_base.specs.declared.deck.RomText.{RomText}
 use Rattle.vfs_base.specs.declared.describe.Describe.{Describe}
-use Rattle.vfs_base.specs.declared.describe.VolumeShape.{VolumeShape}
 use Rattle.vfs_model.specs.Manifest.{manifest_tree}
 use Rattle.vfs_model.specs.Rom.{RomItems}
 use Rattle.vfs_model.specs.ScriptRun.{first_bad_rom, rom_node}
+use Rattle.vfs_model.specs.Sizes.{HasFewCells}
 use Rattle.vfs_model.specs.declared.namespace.RomImage.{RomImage}
 use Rattle.vfs_model.specs.declared.namespace.RomNode.{RomNode}
 use Rattle.plain_steps.specs.declared.plain_fault.PlainFault.{PlainFault}
@@ -37,14 +37,6 @@ behind images (Err place) = Err place
 -- a device does not tell its input
 abbrev pub is_untold : Describe → Bool
 is_untold describe = list_any (λ shape. is_none shape.input) describe.chars
-
--- a rom has no more nodes than a file system may have
-abbrev pub IsSmallRom : RomImage → Type 0
-IsSmallRom image = length image.nodes ≤ 4096
-
--- a volume has no more cells than it may have
-abbrev pub HasFewCells : VolumeShape → Type 0
-HasFewCells shape = length shape.pages ≤ 1024
 
 -- no volume has more cells than it may have
 abbrev pub HasFewCellsEach : Describe → Type 0

@@ -5,7 +5,8 @@ ghost use Rattle.std.specs.Option.{option_copied};
 ghost use Rattle.vfs_base.specs.Path.{AllAre};
 ghost use Rattle.vfs_base.specs.declared.deck.RomText.{RomText};
 ghost use Rattle.vfs_model.specs.ScriptRun.{rom_node};
-ghost use Rattle.plain_steps.specs.Opening.{IsSmallRom, behind, StopsRoms, rom_images, rom_nodes};
+ghost use Rattle.vfs_model.specs.Sizes.{IsSmallRom};
+ghost use Rattle.plain_steps.specs.Opening.{behind, StopsRoms, rom_images, rom_nodes};
 
 use crate::plain_fault::PlainFault;
 use romfs::{ManifestFault, RomTree, read_manifest};

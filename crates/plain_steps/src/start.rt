@@ -1,6 +1,6 @@
 //! The world at the start: nothing is mounted, and everything is at home.
 
-ghost use Rattle.std.specs.Prelude.{◌≡◌, ◌++◌, ◌∷◌, [], None, IfOk, OnOk, length, map, replicate};
+ghost use Rattle.std.specs.Prelude.{◌≡◌, [], None, IfOk, OnOk, map, replicate};
 ghost use Rattle.vfs_model.specs.Homes.{empty_cells, opening_home, opening_world};
 ghost use Rattle.vfs_model.specs.Namespace.{opening_device, opening_namespace, opening_volume, root_mount};
 ghost use Rattle.vfs_model.specs.declared.world.FileState.TheVariants as file;

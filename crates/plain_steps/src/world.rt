@@ -8,7 +8,7 @@ ghost use Rattle.vfs_model.specs.StepForms.{MayTake, TellsFolder};
 ghost use Rattle.vfs_model.specs.World.{FitsStep, fits_step, namespace_part, session_of, step_row, world_step};
 ghost use Rattle.vfs_model.specs.Gives.{Gives};
 ghost use Rattle.plain_steps.specs.Opening.{HasFewCellsEach, StopsOpening, is_untold};
-ghost use Rattle.plain_nodes.specs.Sizes.{IsSized};
+ghost use Rattle.vfs_model.specs.Sizes.{IsSized};
 ghost use Rattle.plain_nodes.specs.WorldAnswer.{leaving, world_answer};
 
 use crate::plain_fault::PlainFault;
@@ -41,7 +41,7 @@ impl Drop for PlainWorld {
 
 impl Model for PlainWorld {
     ghost use Rattle.vfs_model.specs.declared.world.WorldState.{WorldState};
-    ghost use Rattle.plain_nodes.specs.Sizes.{IsSized};
+    ghost use Rattle.vfs_model.specs.Sizes.{IsSized};
 
     ghost Value = { WorldState };
 
@@ -57,7 +57,7 @@ impl PlainWorld {
     /// # Errors
     /// `BadRom` with the first rom, counted from 0, whose manifest is not in its form; else `Untold`
     /// where a character device does not tell its input; `NoMemory`.
-    #[tactic(auto, using(crate::proofs::SizedStart::sized_start, crate::proofs::RomLists::none_bad, crate::proofs::RomLists::one_bad), unfolding(vfs_model::specs::Homes::opening_world))]
+    #[tactic(auto, using(vfs_model::proofs::SizedStart::sized_start, crate::proofs::RomLists::none_bad, crate::proofs::RomLists::one_bad), unfolding(vfs_model::specs::Homes::opening_world))]
     pub fn open(alloc: Global, deck: &Deck, describe: &Describe) -> Result<PlainWorld, PlainFault>
         requires { HasFewCellsEach describe.now }
         ensures opens { IfOk result (λ world. world ≡ opening_world (map rom_image deck.now.roms) describe.now) }
@@ -156,9 +156,7 @@ fn step_namespace(
     requires asks { MayTake who step.now }
     requires row { step_row step.now ≡ None }
     ensures ok { IfOk result (λ reply. namespace_part world.old (namespace_step world.old.namespace (session_of who) step.now mark) step.now ≡ leaving world.new reply) }
-    ensures folder { IfOk result TellsFolder }
     ensures err { OnErr result (world.new ≡ world.old) }
-    ensures sized { IsSized world.new.namespace }
 {
     if is_shutdown(step) {
         return shut_down(world, alloc, mark);
@@ -181,9 +179,7 @@ fn session_step(
     requires sized { IsSized world.old.namespace }
     requires goes_on { is_shutdown step.now ≡ false }
     ensures ok { IfOk result (λ reply. namespace_part world.old (namespace_step world.old.namespace session step.now mark) step.now ≡ leaving world.new reply) }
-    ensures folder { IfOk result TellsFolder }
     ensures err { OnErr result (world.new ≡ world.old) }
-    ensures sized { IsSized world.new.namespace }
 {
     match mark {
         Mark::Clear => match take_step(world, alloc, session, step) {
@@ -206,9 +202,7 @@ fn take_step(
 ) -> Result<Reply, Stop>
     requires sized { IsSized world.old.namespace }
     ensures told { Gives (leaving world.new) result (world_answer world.old session step.now) }
-    ensures folder { IfOk result TellsFolder }
     ensures err { OnErr result (world.new ≡ world.old) }
-    ensures sized { IsSized world.new.namespace }
 {
     match step {
         Step::Stat { path } => stat_in(world, alloc, session, path),

@@ -1,6 +1,7 @@
 use Rattle.std.proofs.Common.{◌≡◌, drop}
 use Rattle.vfs_base.specs.Path.{AllAre}
-use Rattle.plain_steps.specs.Opening.{IsSmallRom, behind, rom_images}
+use Rattle.vfs_model.specs.Sizes.{IsSmallRom}
+use Rattle.plain_steps.specs.Opening.{behind, rom_images}
 use Rattle.plain_steps.proofs.roms.rom_images.Given as goal
 
 abbrev pub invariant-loop-text : goal.invariant-loop-text
