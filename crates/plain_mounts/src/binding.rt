@@ -1,6 +1,6 @@
 //! What a mount begins with: its nodes, and the rows of its files. No memory is wanted.
 
-ghost use Rattle.std.specs.Prelude.{◌≡◌, ◌∷◌, [], ◌+◌, ◌≤◌, cond, is_some, length, vec_len, vec_capacity};
+ghost use Rattle.std.specs.Prelude.{◌≡◌, ◌∷◌, [], ◌+◌, ◌<◌, ◌≤◌, cond, is_some, length, vec_len, vec_capacity};
 ghost use Rattle.vfs_model.specs.Lookup.{with_tree};
 ghost use Rattle.vfs_model.specs.MountStep.{add_content, bind_content, origin_backing};
 ghost use Rattle.plain_mounts.specs.Leaving.{rows_so_far};
@@ -23,7 +23,8 @@ pub fn add_entries(
     tree: &mut Vec<(Path, NodeKind)>,
     changes: &mut Vec<Change>,
 )
-    requires { IsReady namespace.old content tree.old changes.old }
+    requires number { mount.now.number < 16 }
+    requires ready { IsReady namespace.old content tree.old changes.old }
     ensures contents { BringsMore changes.old.items changes.new.items (λ roms. brought_by roms content) }
     ensures next { add_entries mount.now (rows_so_far (with_tree namespace.old mount.now.number tree.old.items) changes.old.items) content
         ≡ rows_so_far (with_tree namespace.new mount.now.number tree.new.items) changes.new.items }
@@ -43,7 +44,8 @@ fn add_entry(
     tree: &mut Vec<(Path, NodeKind)>,
     changes: &mut Vec<Change>,
 )
-    requires { IsReady namespace.old ((path, origin) ∷ []) tree.old changes.old }
+    requires number { mount.now.number < 16 }
+    requires ready { IsReady namespace.old ((path, origin) ∷ []) tree.old changes.old }
     ensures next { add_content mount.now (rows_so_far (with_tree namespace.old mount.now.number tree.old.items) changes.old.items) path origin
         ≡ rows_so_far (with_tree namespace.new mount.now.number tree.new.items) changes.new.items }
     ensures live_files { length namespace.new.live_files ≡ 1024 }
@@ -56,7 +58,6 @@ fn add_entry(
     ensures changes_len { vec_len changes.new ≤ vec_len changes.old + 1 }
     ensures changes_room { vec_capacity changes.old ≤ vec_capacity changes.new }
 {
-    let _number = mount.number.number();
     match origin {
         None => put_reserved(tree, path, NodeKind::Dir),
         Some(origin) => bind_content(namespace, mount, path, origin, tree, changes),
@@ -73,7 +74,8 @@ fn bind_content(
     tree: &mut Vec<(Path, NodeKind)>,
     changes: &mut Vec<Change>,
 )
-    requires { IsReady namespace.old ((path, Some origin) ∷ []) tree.old changes.old }
+    requires number { mount.now.number < 16 }
+    requires ready { IsReady namespace.old ((path, Some origin) ∷ []) tree.old changes.old }
     ensures next { bind_content mount.now path origin (rows_so_far (with_tree namespace.old mount.now.number tree.old.items) changes.old.items)
         ≡ rows_so_far (with_tree namespace.new mount.now.number tree.new.items) changes.new.items }
     ensures live_files { length namespace.new.live_files ≡ 1024 }
@@ -86,7 +88,6 @@ fn bind_content(
     ensures changes_len { vec_len changes.new ≡ vec_len changes.old + 1 }
     ensures changes_room { vec_capacity changes.new ≡ vec_capacity changes.old }
 {
-    let _number = mount.number.number();
     let Some(row) = least_free_row(namespace) else {
         unreachable!();
     };

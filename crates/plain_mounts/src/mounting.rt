@@ -308,6 +308,7 @@ fn begin_mount(
     mount: &Mount,
     more: usize,
 ) -> Result<Vec<(Path, NodeKind)>, NoMemory>
+    ensures number { OnOk result (mount.now.number < 16) }
     ensures next { OnOk result (namespace.new ≡ with_tree (with_mount namespace.old mount.now) mount.now.number []) }
     ensures tree { IfOk result (λ tree. tree.items ≡ tree_of namespace.old mount.now.number) }
     ensures room { IfOk result (λ tree. vec_len tree + more ≤ vec_capacity tree) }

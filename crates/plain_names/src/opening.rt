@@ -210,13 +210,12 @@ fn make_file(namespace: &mut Namespace, alloc: Global, path: &[Name]) -> Result<
     ensures ok { IfOk result (λ change. make_file namespace.old path.now
         ≡ record { next = namespace.new; changes = row_change change ∷ [] }) }
     ensures plain { IfOk result (λ change. brings_no_bytes change ≡ true) }
-    ensures number { (covering_mount namespace.old path.now).number < 16 }
+    ensures number { OnOk result ((covering_mount namespace.old path.now).number < 16) }
     ensures err { OnErr result (namespace.new ≡ namespace.old) }
 {
     let Some(row) = least_free_row(namespace) else {
         unreachable!();
     };
-    let _number = covering_mount(namespace, path).number.number();
     let life = new_life(namespace, path);
     let kind = life.kind;
     let origin = new_origin(&life.backing);

@@ -1,9 +1,9 @@
 //! Nodes of the namespace that are put, taken away and moved.
 
-ghost use Rattle.std.specs.Prelude.{◌≡◌, [], filter, not, OnOk, OnErr};
+ghost use Rattle.std.specs.Prelude.{◌≡◌, ◌<◌, [], filter, not, OnOk, OnErr};
 ghost use Rattle.std.specs.FinMap.Entries.{put};
 ghost use Rattle.vfs_base.specs.Path.{path_cmp};
-ghost use Rattle.vfs_model.specs.Lookup.{with_node, with_tree};
+ghost use Rattle.vfs_model.specs.Lookup.{covering_mount, with_node, with_tree};
 ghost use Rattle.vfs_model.specs.NameSteps.{without_node};
 ghost use Rattle.vfs_model.specs.Namespace.{same_path, tree_of};
 
@@ -16,6 +16,7 @@ use vfs_model::{Namespace, Tree};
 
 /// Takes the tree of the mount with this number out of the namespace, which has no nodes there then.
 pub fn take_tree(namespace: &mut Namespace, number: MountId) -> Tree
+    ensures number { number < 16 }
     ensures tree { result ≡ tree_of namespace.old number }
     ensures next { namespace.new ≡ with_tree namespace.old number [] }
 {
@@ -41,6 +42,7 @@ pub fn put_in_tree(
     node: NodeKind,
 ) -> Result<(), NoMemory>
     ensures ok { OnOk result (namespace.new ≡ with_tree namespace.old number (put path_cmp path node (tree_of namespace.old number))) }
+    ensures number { number < 16 }
     ensures err { OnErr result (namespace.new ≡ namespace.old) }
 {
     let mut tree = take_tree(namespace, number);
@@ -58,6 +60,7 @@ pub fn put_node(
     node: NodeKind,
 ) -> Result<(), NoMemory>
     ensures ok { OnOk result (namespace.new ≡ with_node namespace.old path.now node) }
+    ensures number { OnOk result ((covering_mount namespace.old path.now).number < 16) }
     ensures err { OnErr result (namespace.new ≡ namespace.old) }
 {
     let number = covering_mount(namespace, path).number;

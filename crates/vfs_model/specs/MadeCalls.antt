@@ -1,5 +1,5 @@
 -- Which calls of devices a step makes under its mark, and the caches that it leaves by them.
-use Rattle.std.specs.Prelude.{◌≡◌, ℕ, ◌⊎◌, ◌==◌, Bool, true, false, Option, Some, None, is_ok, List, [], ◌∷◌, ◌++◌, filter, Result, Ok, Err, if◌then◌else◌}
+use Rattle.std.specs.Prelude.{◌≡◌, ℕ, ◌⊎◌, ◌==◌, Bool, true, false, ◌&&◌, Option, Some, None, is_ok, List, [], ◌∷◌, ◌++◌, filter, Result, Ok, Err, if◌then◌else◌}
 use Rattle.std.specs.List.{All, Any, list_any, range_with_len}
 use Rattle.vfs_base.specs.Path.{Path}
 use Rattle.vfs_base.specs.declared.entry.Mark.{Mark}
@@ -10,7 +10,7 @@ use Rattle.vfs_base.specs.declared.step.Step.{Step}
 use Rattle.vfs_base.specs.declared.step.Step.TheVariants as step
 use Rattle.vfs_model.specs.Cache.{CacheRun, begin_run, row_calls, row_run, write_back}
 use Rattle.vfs_model.specs.FailedCalls.{stopped_run, try_write_back}
-use Rattle.vfs_model.specs.FileLife.{backing_of}
+use Rattle.vfs_model.specs.FileLife.{backing_of, is_linked}
 use Rattle.vfs_model.specs.Lookup.{asked_path}
 use Rattle.vfs_model.specs.Namespace.{life_at}
 use Rattle.vfs_model.specs.UmountSteps.{mount_at_point, rows_of_mount, umount_step}
@@ -78,9 +78,9 @@ is_cell_backing (backing.Device device) = false
 abbrev pub is_cell_row : Namespace → ℕ → Bool
 is_cell_row n row = is_cell_backing (backing_of (life_at n row))
 
--- the rows whose files lie on cells, in their order
-abbrev pub cell_rows : Namespace → List ℕ
-cell_rows n = filter (is_cell_row n) (range_with_len 1 ROWS)
+-- the rows of the files on cells that have a name, in their order: the others are dropped at the end, with what is not written
+abbrev pub named_cell_rows : Namespace → List ℕ
+named_cell_rows n = filter (λ row. is_cell_row n row && is_linked n row) (range_with_len 1 ROWS)
 
 -- the mount that stands at an asked path
 abbrev pub asked_mount : Namespace → Result Path Errno → Option Mount
@@ -98,7 +98,7 @@ umounted_rows n k point = if is_ok (umount_step n k point) then cell_rows_of n (
 -- the rows that a step of the namespace writes back
 abbrev pub written_rows : Namespace → ℕ → Step → List ℕ
 written_rows n k (step.Umount point) = umounted_rows n k point
-written_rows n k step.Shutdown = cell_rows n
+written_rows n k step.Shutdown = named_cell_rows n
 written_rows n k _ = []
 
 abbrev pub RowsWritten : (ℕ → CacheState) → (ℕ → CacheRun) → List ℕ → Step → Mark → Type 0
