@@ -1,5 +1,5 @@
 -- What a mounted rom and a mounted volume show, and what a volume keeps that is unmounted.
-use Rattle.std.specs.Prelude.{◌≡◌, ◌≢◌, ℕ, false, Option, Some, None, List, [], ◌++◌, Ok, slice_index_or}
+use Rattle.std.specs.Prelude.{◌≡◌, ◌≢◌, ℕ, Option, Some, None, List, [], ◌++◌, Ok, slice_index_or}
 use Rattle.std.specs.FinMap.Entries.{find as value_at}
 use Rattle.vfs_base.specs.Path.{Path, path_cmp}
 use Rattle.vfs_base.specs.declared.entry.Mark.TheVariants as mark
@@ -16,7 +16,6 @@ use Rattle.vfs_model.specs.Content.{fs_type_of, no_rom, rom_at}
 use Rattle.vfs_model.specs.FileLife.{volume_at, volume_named}
 use Rattle.vfs_model.specs.Homes.{bytes_of, cell_bytes, file_at}
 use Rattle.vfs_model.specs.Lookup.{asked_path, node_at}
-use Rattle.vfs_model.specs.MountStep.{is_without_source}
 use Rattle.vfs_model.specs.UmountSteps.{mount_at_point}
 use Rattle.vfs_model.specs.World.{world_step}
 use Rattle.vfs_model.specs.declared.namespace.KeptNode.{KeptNode}
@@ -73,10 +72,10 @@ KeepsNode w (Some node.Dir) homes volume name = name ≡ Some kept.Dir
 KeepsNode w (Some (node.File id shape)) homes volume name =
     (shape ≡ kind.Cell) × (cell : ℕ) × (name ≡ Some (kept.File cell)) × (cell_bytes homes volume cell ≡ bytes_of (file_at w id.row))
 
--- where the source of a mount is a volume, the volume keeps what stood below the point of the mount when it went, and nothing else
+-- where a mount of a volume goes, the volume keeps what stood below the point, and nothing else
 abbrev pub UnmountedVolumeKeepsItsFiles : Type 0
 UnmountedVolumeKeepsItsFiles = (w : WorldState) (k : ℕ) (point_text : List ℕ) (mount : Mount) (path p : Path) → IsConsistent w →
-    asked_path w.namespace k point_text ≡ Ok path → mount_at_point w.namespace path ≡ Some mount → mount.fs ≡ fs.Cell → is_without_source w.namespace fs.Cell mount.source ≡ false →
+    asked_path w.namespace k point_text ≡ Ok path → mount_at_point w.namespace path ≡ Some mount → mount.fs ≡ fs.Cell →
     let left = world_step w (who.Session k) (step.Umount point_text) mark.Clear in left.reply ≡ reply.Done → p ≢ [] →
     KeepsNode w (node_at w.namespace (path ++ p)) left.next.homes (volume_named left.next.namespace mount.source) (value_at path_cmp p (kept_names left.next.namespace mount.source))
 

@@ -3,8 +3,9 @@ use Rattle.std.proofs.Common.{◌≡◌, ◌≢◌, ℕ, zero, suc, ◌<◌, ◌
 use Rattle.std.proofs.lemmas.Bool.Decides.{eqb_tells, leb_tells}
 use Rattle.std.proofs.lemmas.Cmp.{tied_itself}
 use Rattle.std.proofs.lemmas.List.{get_or-set_other, get_or-set_same, get_or_past}
+use Rattle.std.proofs.lemmas.List.Sums.{fails_before_first}
 use Rattle.std.specs.FinMap.Entries.{below_all, find as value_at, is_sorted}
-use Rattle.std.specs.List.{list_any}
+use Rattle.std.specs.List.{list_any, position_or_len}
 use Rattle.std.specs.Ordering.{eq_by_cmp, is_eq, is_lt}
 use Rattle.std.specs.declared.cmp.Ordering.{Ordering}
 use Rattle.std.specs.declared.cmp.Ordering.TheVariants.{Less, Equal, Greater}
@@ -85,6 +86,18 @@ pub place-any : {X : Type 0} (p : X → Bool) (xs : List X) (place : ℕ) (d : X
 place-any p [] place d l h = absurd (omega arith)
 place-any p (x ∷ xs) zero d l h = or-first (p x) (list_any p xs) h
 place-any p (x ∷ xs) (suc place) d l h = or-second (p x) (list_any p xs) (place-any p xs place d (omega arith) h)
+
+-- the first that passes is one of the list, where one passes
+pub first-within : {X : Type 0} (p : X → Bool) (xs : List X) (d : X) → list_any p xs ≡ true → position_or_len p xs < length xs
+first-within p xs d h = elim (below-or-past (position_or_len p xs) (length xs)) [
+  | inl l ↦ l
+  | inr past ↦
+      let at = any-place p xs d h in
+      let l = at.within in
+      let yes = at.holds in
+      let no = fails_before_first p xs at.place d (omega (arith, l, past)) in
+      absurd (cc)
+]
 
 pub same-some : {X : Type 0} (x y : X) → Some x ≡ Some y → x ≡ y
 same-some x y e = ap (λ found. unwrap_or found x) e

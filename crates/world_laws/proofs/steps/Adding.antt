@@ -13,7 +13,9 @@ use Rattle.vfs_model.proofs.EmptyMounts.{empty-changes-nothing}
 use Rattle.vfs_model.proofs.MountLaws.{nearer-old, nearest-append}
 use Rattle.vfs_model.proofs.MountsApart.{standing-apart}
 use Rattle.vfs_model.proofs.Trees.{same_path-itself, same_path-other}
+use Rattle.vfs_model.specs.Boxes.{is_cell_mount}
 use Rattle.vfs_model.specs.Consistency.{FoldersStand, LivesFit, ReferencesLive, covered_mount, fits_mount, is_number, mount_numbered, stands_on_folder}
+use Rattle.vfs_model.specs.FileLife.{volume_named}
 use Rattle.vfs_model.specs.Laws.{HasNoPoint, with_mount}
 use Rattle.vfs_model.specs.Lookup.{covering_mount, has_nodes, is_below, is_dir_node, is_prefix, nearest, node_at, node_in}
 use Rattle.vfs_model.specs.Namespace.{all_mounts, folder_of, same_path, tree_of}
@@ -25,7 +27,7 @@ use Rattle.world_laws.proofs.lists.Lists.{below-or-past, no-place, number-itself
 use Rattle.world_laws.proofs.parts.Nodes.{at-rest, prefix-itself}
 use Rattle.world_laws.proofs.parts.Standing.{Nothing, Stands}
 
--- a mount that may come: on a folder without nodes, with no point at or below its own, and with a number of its own
+-- a mount that may come: on a folder without nodes, with no point at or below its own, with a number of its own, and of a volume that there is
 pub record MayMount (n : Namespace) (mount : Mount) : Type 0 where
   pub folder : node_at n mount.point ≡ Some node.Dir
   pub bare : has_nodes n mount.point ≡ false
@@ -33,6 +35,7 @@ pub record MayMount (n : Namespace) (mount : Mount) : Type 0 where
   pub own : list_any (λ other. other.number == mount.number) (all_mounts n) ≡ false
   pub small : mount.number < 16
   pub room : length n.mounts < 15
+  pub sourced : is_cell_mount mount ≡ true → volume_named n mount.source < length n.volumes
 
 abbrev pub with_one : Namespace → Mount → Namespace
 with_one n mount = record n { mounts = n.mounts ++ mount ∷ [] }

@@ -24,7 +24,7 @@ use Rattle.world_laws.proofs.lists.Counting.{none-count}
 use Rattle.world_laws.proofs.lists.Lists.{any-place, place-any, same-number, same-or-other, set-here, set-there, true-or-false}
 use Rattle.world_laws.proofs.lists.Passing.{and-both, and-first, and-second}
 use Rattle.world_laws.proofs.parts.Standing.{Nothing, Stands}
-use Rattle.world_laws.proofs.parts.Taking.{set-at}
+use Rattle.world_laws.proofs.parts.Taking.{set-at, sources-beside}
 use Rattle.world_laws.proofs.steps.UmountKeeping.{found-at}
 use Rattle.world_laws.proofs.steps.Vacating.{cell-kind-is, on-cell}
 
@@ -159,6 +159,7 @@ module _ (n : Namespace) (name : List ℕ) (s : Stands Nothing n) (off : is_moun
           | inr e ↦ subst (IsClosedTree is_kept_dir) (sym e) (s.boxes.kept u)
         ];
         sources_differ = s.boxes.sources_differ;
+        sources = sources-beside n (format_volume n (volume_named n name)) refl format-named (length-set n.volumes (volume_named n name) _) s.boxes.sources;
         named = λ u. elim (format-kept u) [
           | inl e ↦ inl e
           | inr e ↦ elim (s.boxes.named u) [

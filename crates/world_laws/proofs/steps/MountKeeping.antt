@@ -43,7 +43,7 @@ use Rattle.world_laws.proofs.parts.FreeRows.{free_count, rows-length}
 use Rattle.world_laws.proofs.lists.Lists.{AnyPlace, any-later, below-or-past, no-place, nor-first, nor-second, number-itself, or-either, or-first, or-second, same-or-other, same-some, set-here, set-there, equal-is, other-number, true-or-false}
 use Rattle.world_laws.proofs.lists.Passing.{and-both, and-first, and-second}
 use Rattle.world_laws.proofs.parts.Standing.{IsUsed, Nothing, Stands}
-use Rattle.world_laws.proofs.parts.Taking.{BoxesBut, boxes-but, set-at}
+use Rattle.world_laws.proofs.parts.Taking.{BoxesBut, SourcesNamed, boxes-but, set-at, sources-beside}
 
 -- one of a list passes where the count isn't 0
 counted-cons : {X : Type 0} (p : X → Bool) (x : X) (xs : List X) (d : X) (b : Bool) → p x ≡ b → 0 < one_if b + count_by p xs → (0 < count_by p xs → AnyPlace p xs d) → AnyPlace p (x ∷ xs) d
@@ -258,6 +258,13 @@ module _ (n : Namespace) (mount : Mount) (s : Stands Nothing n) (may : MayMount 
     ]
   ]
 
+  -- each mount's source is the name of a volume, the new one's too
+  named-sources : SourcesNamed (with_one n mount)
+  named-sources place d l k = elim (placed (all_mounts n) mount place d l).is [
+    | inl x ↦ subst (λ m. volume_named n m.source < length n.volumes) (sym x.1) (s.boxes.sources place d x.0 (sym (ap is_cell_mount x.1) ∙ k))
+    | inr x ↦ subst (λ m. volume_named n m.source < length n.volumes) (sym x.1) (may.sourced (sym (ap is_cell_mount x.1) ∙ k))
+  ]
+
   other-boxes : same_type mount.fs fs.Cell ≡ false → BoxesBut (with_one n mount)
   other-boxes h = record {
     spares = s.boxes.spares;
@@ -267,6 +274,7 @@ module _ (n : Namespace) (mount : Mount) (s : Stands Nothing n) (may : MayMount 
         ∙ sym (mounted-then (with_one n mount) (volume_at n u).name refl) ∙ k);
     kept = s.boxes.kept;
     sources_differ = apart-sources;
+    sources = named-sources;
     named = s.boxes.named;
   }
     where
@@ -303,6 +311,7 @@ module _ (n : Namespace) (mount : Mount) (s : Stands Nothing n) (may : MayMount 
       | inr e ↦ subst (IsClosedTree is_kept_dir) (sym (kept-other u e)) (s.boxes.kept u)
     ];
     sources_differ = apart-sources;
+    sources = sources-beside (with_one n mount) (with_kept (with_one n mount) (volume_named n mount.source) []) refl kept-named (length-set n.volumes (volume_named n mount.source) _) named-sources;
     named = λ u. elim (same-or-other u (volume_named n mount.source)) [
       | inl e ↦ inl (kept-own u e)
       | inr e ↦ elim (s.boxes.named u) [

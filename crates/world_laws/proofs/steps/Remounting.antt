@@ -1,7 +1,6 @@
 -- A volume that is unmounted and mounted again shows the same files.
-use Rattle.std.proofs.Common.{◌≡◌, ℕ, ◌<◌, not, true, false, Bool, Option, Some, None, List, [], ◌∷◌, ◌++◌, length, Ok, refl, sym, ap, subst, ◌∙◌}
+use Rattle.std.proofs.Common.{◌≡◌, ℕ, ◌<◌, Option, Some, None, [], ◌∷◌, ◌++◌, length, Ok, refl, sym, ap, subst, ◌∙◌}
 use Rattle.std.specs.FinMap.Entries.{find as value_at}
-use Rattle.std.specs.List.{list_any}
 use Rattle.vfs_base.specs.Path.{Path, path_cmp}
 use Rattle.vfs_base.specs.declared.entry.Mark.TheVariants as mark
 use Rattle.vfs_base.specs.declared.entry.Who.TheVariants as who
@@ -10,16 +9,14 @@ use Rattle.vfs_base.specs.declared.kinds.NodeKind.{NodeKind}
 use Rattle.vfs_base.specs.declared.kinds.NodeKind.TheVariants as node
 use Rattle.vfs_base.specs.declared.reply.Reply.TheVariants as reply
 use Rattle.vfs_base.specs.declared.step.Step.TheVariants as step
-use Rattle.vfs_model.specs.Boxes.{IsConsistent}
-use Rattle.vfs_model.specs.Content.{fs_type_of}
-use Rattle.vfs_model.specs.FileLife.{no_volume, volume_named}
+use Rattle.vfs_model.specs.Boxes.{IsConsistent, is_cell_mount}
+use Rattle.vfs_model.specs.Content.{fs_type_of, same_type}
+use Rattle.vfs_model.specs.FileLife.{volume_named}
 use Rattle.vfs_model.specs.Lookup.{asked_path, node_at, node_in}
-use Rattle.vfs_model.specs.MountStep.{is_without_source}
-use Rattle.vfs_model.specs.Namespace.{same_bytes, tree_of}
+use Rattle.vfs_model.specs.Namespace.{tree_of}
 use Rattle.vfs_model.specs.World.{world_step}
 use Rattle.vfs_model.specs.declared.namespace.KeptNode.{KeptNode}
 use Rattle.vfs_model.specs.declared.namespace.Mount.{Mount}
-use Rattle.vfs_model.specs.declared.namespace.Namespace.{Namespace}
 use Rattle.vfs_model.specs.declared.world.Homes.{Homes}
 use Rattle.vfs_model.specs.declared.world.WorldState.{WorldState}
 use Rattle.world_laws.proofs.steps.KeptBytes.{left-consistent, unmounted_world}
@@ -27,16 +24,15 @@ use Rattle.world_laws.proofs.steps.MountEnd.{MayBegin, new_mount}
 use Rattle.world_laws.proofs.steps.MountedNodes.{below-root, mounted_world, root-there, where-mounted}
 use Rattle.world_laws.proofs.steps.Unmounting.{MayLeave}
 use Rattle.world_laws.proofs.steps.VolumeMount.{shows-kept}
-use Rattle.world_laws.proofs.steps.VolumeUmount.{as-many, below-point, first-within, keeps-node, point-is, same-volume, where-unmounted}
+use Rattle.world_laws.proofs.steps.VolumeUmount.{below-point, keeps-node, point-is, where-unmounted}
 use Rattle.world_laws.specs.Mounted.{KeepsNode, RemountedVolumeShowsItsFiles, ShowsKept, ShowsSame, UnmountedVolumeKeepsItsFiles, kept_names}
 
--- a source that a mount of a volume has is the name of one
-volume-within : (n : Namespace) (source : List ℕ) → is_without_source n fs.Cell source ≡ false → volume_named n source < length n.volumes
-volume-within n source h = first-within (λ volume. same_bytes volume.name source) n.volumes no_volume (passed (list_any (λ volume. same_bytes volume.name source) n.volumes) h)
-  where
-    passed : (b : Bool) → not b ≡ false → b ≡ true
-    passed true k = refl
-    passed false k = absurd (cc)
+-- the source of a mount of a volume is the name of one
+source-within : (w : WorldState) (mount : Mount) → IsConsistent w → MayLeave w.namespace mount → mount.fs ≡ fs.Cell → volume_named w.namespace mount.source < length w.namespace.volumes
+source-within w mount c may cells =
+    let is = may.is in
+    subst (λ m. volume_named w.namespace m.source < length w.namespace.volumes) is.is
+    (c.boxes_placed.sources is.place mount is.within (ap is_cell_mount is.is ∙ ap (λ t. same_type t fs.Cell) cells))
 
 -- what a volume keeps of a node, and shows of what it keeps
 keeps-and-shows : (w v : WorldState) (homes : Homes) (volume : ℕ) (found : Option NodeKind) (name : Option KeptNode) (shown : Option NodeKind) →
@@ -49,14 +45,14 @@ keeps-and-shows w v homes volume (Some (node.File id shape)) name shown keeps sh
 
 -- the volume keeps what stood below the point of the mount
 pub unmounted-volume : UnmountedVolumeKeepsItsFiles
-unmounted-volume w k point_text mount path p c named found = λ cells sourced e some.
+unmounted-volume w k point_text mount path p c named found = λ cells e some.
     where-unmounted w point_text path mount c
     (λ v. KeepsNode w (node_at w.namespace (path ++ p)) v.homes (volume_named v.namespace mount.source) (value_at path_cmp p (kept_names v.namespace mount.source)))
     (λ may.
     subst (λ there. KeepsNode w there (unmounted_world w mount).homes (volume_named (unmounted_world w mount).namespace mount.source)
     (value_at path_cmp p (kept_names (unmounted_world w mount).namespace mount.source)))
     (sym (ap (λ q. node_at w.namespace (q ++ p)) (sym (point-is w.namespace path mount found)) ∙ below-point w mount c may p ∙ below-root (tree_of w.namespace mount.number) p some))
-    (keeps-node w mount c may cells (volume-within w.namespace mount.source sourced) p (value_at path_cmp p (tree_of w.namespace mount.number)) refl))
+    (keeps-node w mount c may cells (source-within w mount c may cells) p (value_at path_cmp p (tree_of w.namespace mount.number)) refl))
     k named found e
 
 -- the mount goes, and its volume is mounted at this path
@@ -68,17 +64,12 @@ module _ (w : WorldState) (mount : Mount) (again : Path) (c : IsConsistent w) (m
   abbrev back : WorldState
   back = mounted_world (unmounted_world w mount) again fs.Cell mount.source
 
-  within : volume_named w.namespace mount.source < length w.namespace.volumes
-  within =
-      subst (λ volume. volume < length w.namespace.volumes) (same-volume w mount c may cells)
-      (subst (λ many. volume_named left.namespace mount.source < many) (as-many w mount c may cells) (volume-within left.namespace mount.source begin.sourced))
-
   shows-tree : (p : Path) → ShowsSame w (node_in (tree_of w.namespace mount.number) p) back (node_at back.namespace (again ++ p))
   shows-tree [] = root-there left again fs.Cell mount.source (left-consistent w mount c may) begin
   shows-tree (name ∷ names) =
       keeps-and-shows w back left.homes (volume_named left.namespace mount.source) (value_at path_cmp (name ∷ names) (tree_of w.namespace mount.number))
       (value_at path_cmp (name ∷ names) (kept_names left.namespace mount.source)) (node_at back.namespace (again ++ name ∷ names))
-      (keeps-node w mount c may cells within (name ∷ names) (value_at path_cmp (name ∷ names) (tree_of w.namespace mount.number)) refl)
+      (keeps-node w mount c may cells (source-within w mount c may cells) (name ∷ names) (value_at path_cmp (name ∷ names) (tree_of w.namespace mount.number)) refl)
       (shows-kept left again mount.source (name ∷ names) (left-consistent w mount c may) (λ e. absurd (cc)) begin (value_at path_cmp (name ∷ names) (kept_names left.namespace mount.source)) refl)
 
   shows-again : (path p : Path) → mount.point ≡ path → ShowsSame w (node_at w.namespace (path ++ p)) back (node_at back.namespace (again ++ p))

@@ -402,6 +402,13 @@ module _ (n : Namespace) (mount : Mount) (s : Stands Nothing n) (may : MayLeave 
       kept-apart (stays mount.number) (all_mounts n) place other (subst (λ ms. place < length ms) (all-left f) l) (subst (λ ms. other < length ms) (all-left f) m)
       ((boxes-but n s.boxes).sources_differ _ _ d a.0 b.0 (sym (ap (λ x. same_type x.fs fs.Cell) a.1) ∙ k) (sym (ap (λ x. same_type x.fs fs.Cell) b.1) ∙ j) (sym (ap (λ x. x.source) a.1) ∙ e ∙ ap (λ x. x.source) b.1))
 
+  -- each mount that stays has a volume's name as before
+  names-left : (f : FsType) (place : ℕ) (d : Mount) → place < length (all_mounts (left_by n mount f)) → is_cell_mount (slice_index_or (all_mounts (left_by n mount f)) place d) ≡ true →
+      volume_named n (slice_index_or (all_mounts (left_by n mount f)) place d).source < length n.volumes
+  names-left f place d l k =
+      let a = at-from f place d l in
+      subst (λ m. volume_named n m.source < length n.volumes) (sym a.1) (s.boxes.sources _ d a.0 (sym (ap is_cell_mount a.1) ∙ k))
+
   pub other-left : (f : FsType) → (left_by n mount f).volumes ≡ n.volumes → BoxesBut (left_by n mount f)
   other-left f volumes = record {
     spares = subst (λ vs. (u : ℕ) → length (slice_index_or vs u no_volume).spare ≡ length (slice_index_or vs u no_volume).pages) (sym volumes) s.boxes.spares;
@@ -411,6 +418,8 @@ module _ (n : Namespace) (mount : Mount) (s : Stands Nothing n) (may : MayLeave 
         ap (λ vs. (slice_index_or vs u no_volume).kept) volumes ∙ s.boxes.mounted u (mounted-less f (volume_at n u).name (sym (ap (is_mounted (left_by n mount f) fs.Cell) name) ∙ h));
     kept = subst (λ vs. (u : ℕ) → IsClosedTree is_kept_dir (slice_index_or vs u no_volume).kept) (sym volumes) s.boxes.kept;
     sources_differ = sources-left f;
+    sources = λ place d l k.
+        subst (λ vs. position_or_len (λ v. same_bytes v.name (slice_index_or (all_mounts (left_by n mount f)) place d).source) vs < length vs) (sym volumes) (names-left f place d l k);
     named = subst (λ vs. (u : ℕ) → ((slice_index_or vs u no_volume).kept ≡ []) ⊎ (position_or_len (λ v. same_bytes v.name (slice_index_or vs u no_volume).name) vs ≡ u)) (sym volumes) s.boxes.named;
   }
 
@@ -515,6 +524,11 @@ module _ (n : Namespace) (mount : Mount) (s : Stands Nothing n) (may : MayLeave 
         | inr e ↦ subst (IsClosedTree is_kept_dir) (sym (keep-other u e)) (s.boxes.kept u)
       ];
       sources_differ = sources-left fs.Cell;
+      sources = λ place d m k.
+          let old = names-left fs.Cell place d m k in
+          let name = keep-named (slice_index_or (all_mounts (left_by n mount fs.Cell)) place d).source in
+          let many = length-set n.volumes (volume_named n mount.source) (record (volume_at n (volume_named n mount.source)) { kept = map (λ entry. (entry.0, kept_node n entry.1)) (tree_of n mount.number) }) in
+          omega (arith, old, name, many);
       named = λ u. elim (same-or-other u (volume_named n mount.source)) [
         | inl e ↦ inr (keep-named _ ∙ ap (volume_named n) (keep-name u ∙ ap (λ k. (volume_at n k).name) e ∙ own-name l) ∙ sym e)
         | inr e ↦ elim (s.boxes.named u) [

@@ -1,10 +1,9 @@
 -- A volume that is unmounted keeps the folders and the files of its mount.
 use Rattle.std.proofs.Common.{◌≡◌, ℕ, ◌-◌, ◌<◌, Bool, true, false, Option, Some, None, option_map, IsSomeAnd, List, [], ◌∷◌, ◌++◌, length, drop, fold, slice_index_or, slice_set, Result, Ok, inl, inr, refl, sym, ap, subst, ◌∙◌, arith}
 use Rattle.std.proofs.lemmas.List.{length-set}
-use Rattle.std.proofs.lemmas.List.Sums.{fails_before_first}
 use Rattle.std.specs.Cmp.Lexicographic.{bytes_decides, pointwise_decides}
 use Rattle.std.specs.FinMap.Entries.{find as value_at}
-use Rattle.std.specs.List.{list_any, position_or_len}
+use Rattle.std.specs.List.{position_or_len}
 use Rattle.vfs_base.specs.Path.{Path, path_cmp}
 use Rattle.vfs_base.specs.declared.entry.Mark.TheVariants as mark
 use Rattle.vfs_base.specs.declared.entry.Who.TheVariants as who
@@ -40,7 +39,7 @@ use Rattle.vfs_model.specs.declared.namespace.LiveFile.{LiveFile}
 use Rattle.vfs_model.specs.declared.namespace.Mount.{Mount}
 use Rattle.vfs_model.specs.declared.namespace.Namespace.{Namespace}
 use Rattle.vfs_model.specs.declared.world.WorldState.{WorldState}
-use Rattle.world_laws.proofs.lists.Lists.{any-place, below-or-past, no-place}
+use Rattle.world_laws.proofs.lists.Lists.{below-or-past, no-place}
 use Rattle.world_laws.proofs.lists.Passing.{and-first}
 use Rattle.world_laws.proofs.parts.Clear.{below-prefix}
 use Rattle.world_laws.proofs.parts.Covering.{covering-is, covers-longest, covers-prefix, drop-front, one-point, same-prefix}
@@ -80,18 +79,6 @@ freed-volumes [] rows = refl
 freed-volumes (row ∷ left) rows =
     freed-volumes left (free_row end_of_unmounted rows row)
     ∙ ended-volumes (record rows.next { live_files = slice_set rows.next.live_files (row - 1) None }) (backing_of (life_at rows.next row))
-
--- the first that passes is one of the list, where one passes
-pub first-within : {X : Type 0} (p : X → Bool) (xs : List X) (d : X) → list_any p xs ≡ true → position_or_len p xs < length xs
-first-within p xs d h = elim (below-or-past (position_or_len p xs) (length xs)) [
-  | inl l ↦ l
-  | inr past ↦
-      let at = any-place p xs d h in
-      let l = at.within in
-      let yes = at.holds in
-      let no = fails_before_first p xs at.place d (omega (arith, l, past)) in
-      absurd (cc)
-]
 
 module _ (w : WorldState) (mount : Mount) (c : IsConsistent w) (may : MayLeave w.namespace mount) where
   s : Stands Nothing w.namespace
