@@ -350,7 +350,7 @@ module _ (n : Namespace) (mount : Mount) (s : Stands Nothing n) (may : MayLeave 
   volume = volume_named n mount.source
 
   -- a mount that stays has another source than this one, where both are of a volume
-  mounted-left : (f : FsType) → mount.fs ≡ fs.Cell → is_mounted (left_by n mount f) fs.Cell mount.source ≡ false
+  pub mounted-left : (f : FsType) → mount.fs ≡ fs.Cell → is_mounted (left_by n mount f) fs.Cell mount.source ≡ false
   mounted-left f cell = elim (true-or-false (is_mounted (left_by n mount f) fs.Cell mount.source)) [
     | inr h ↦ h
     | inl h ↦ absurd (somewhere (any-place (λ m. same_type m.fs fs.Cell && same_bytes m.source mount.source) (all_mounts (left_by n mount f)) mount h))
