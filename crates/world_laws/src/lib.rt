@@ -85,7 +85,7 @@ pub fn remounted_volume_shows_its_files()
     ensures { RemountedVolumeShowsItsFiles }
 {}
 
-/// What a volume keeps that is not mounted stays through each step but a format and a mount of it: its folders, its files and their bytes.
+/// What a volume keeps that is not mounted stays through each step that neither formats it nor mounts it, the end too: its folders, its files and their bytes.
 pub fn kept_files_stay()
     ensures { KeptFilesStay }
 {}

@@ -295,7 +295,6 @@ free-number n l = elim (below-or-past (least_free_mount n) 16) [
 -- what a mount needs to begin, where none of its refusals holds
 pub record MayBegin (n : Namespace) (mount : Mount) : Type 0 where
   pub may : MayMount n mount
-  pub sourced : is_without_source n mount.fs mount.source ≡ false
   pub taken : is_taken n mount.fs mount.source ≡ false
   pub room : file_count (content_of n mount.fs mount.source) ≤ free_count n
   pub away : (k : ℕ) → is_prefix mount.point (folder_of n k) ≡ false
@@ -328,7 +327,6 @@ may-begin n path asked source s h =
     let few = refuse-passed errno.ENOSPC (nat_le 16 (length (all_mounts n))) (then-first (refuse errno.ENOSPC when (nat_le 16 (length (all_mounts n)))) _ tt r5) in
     let r6 = then-rest (refuse errno.ENOSPC when (nat_le 16 (length (all_mounts n)))) _ tt r5 in
     let without = is_without_source n asked source || (same_type asked fs.Cell && n.is_stopped) in
-    let sourced = nor-first (is_without_source n asked source) _ (refuse-passed errno.ENXIO without (then-first (refuse errno.ENXIO when without) _ tt r6)) in
     let r7 = then-rest (refuse errno.ENXIO when without) _ tt r6 in
     let taken = refuse-passed errno.EBUSY (is_taken n asked source) (then-first (refuse errno.EBUSY when (is_taken n asked source)) _ tt r7) in
     let short = nat_lt (free_count n) (file_count (content_of n asked source)) in
@@ -346,9 +344,8 @@ may-begin n path asked source s h =
         own = number.1;
         small = number.0;
         room = omega (arith, fewer);
-        sourced = named-volume n asked source sourced;
+        sourced = named-volume n asked source (nor-first (is_without_source n asked source) _ (refuse-passed errno.ENXIO without (then-first (refuse errno.ENXIO when without) _ tt r6)));
       };
-      sourced = sourced;
       taken = taken;
       room = ltb-false (free_count n) (file_count (content_of n asked source)) room;
       away = λ j. within-or-not n path j (not-root n path s.working_directories unpointed) away;

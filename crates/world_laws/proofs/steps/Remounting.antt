@@ -1,5 +1,5 @@
 -- A volume that is unmounted and mounted again shows the same files, whatever steps are taken in between.
-use Rattle.std.proofs.Common.{◌≡◌, ℕ, ◌<◌, false, Option, List, Some, None, [], ◌∷◌, ◌++◌, length, Ok, refl, sym, ap, subst, ◌∙◌}
+use Rattle.std.proofs.Common.{◌≡◌, ℕ, false, Option, List, Some, None, [], ◌∷◌, ◌++◌, Ok, refl, sym, ap, subst, ◌∙◌}
 use Rattle.std.specs.FinMap.Entries.{find as value_at}
 use Rattle.std.specs.List.{list_any}
 use Rattle.vfs_base.specs.Path.{Path, path_cmp}
@@ -12,8 +12,8 @@ use Rattle.vfs_base.specs.declared.reply.Reply.TheVariants as reply
 use Rattle.vfs_base.specs.declared.step.Step.TheVariants as step
 use Rattle.vfs_model.proofs.Rests.{changed-namespace}
 use Rattle.vfs_model.specs.Asking.{run_steps}
-use Rattle.vfs_model.specs.Boxes.{IsConsistent, is_cell_mount}
-use Rattle.vfs_model.specs.Content.{fs_type_of, is_mounted, same_type}
+use Rattle.vfs_model.specs.Boxes.{IsConsistent}
+use Rattle.vfs_model.specs.Content.{fs_type_of, is_mounted}
 use Rattle.vfs_model.specs.FileLife.{volume_named}
 use Rattle.vfs_model.specs.Lookup.{asked_path, node_at, node_in}
 use Rattle.vfs_model.specs.Namespace.{tree_of}
@@ -35,14 +35,7 @@ use Rattle.world_laws.proofs.steps.VolumeUmount.{below-point, keeps-node, point-
 use Rattle.world_laws.proofs.steps.VolumeSteps.{kept-stays-later}
 use Rattle.world_laws.proofs.steps.WorldSteps.{run-consistent}
 use Rattle.world_laws.specs.Keeping.{MayRun}
-use Rattle.world_laws.specs.Mounted.{KeepsNode, KeepsSame, RemountedVolumeShowsItsFiles, ShowsKept, ShowsSame, UnmountedVolumeKeepsItsFiles, VolumeMountedLaterShowsItsFiles, kept_names, takes_volume}
-
--- the source of a mount of a volume is the name of one
-source-within : (w : WorldState) (mount : Mount) → IsConsistent w → MayLeave w.namespace mount → mount.fs ≡ fs.Cell → volume_named w.namespace mount.source < length w.namespace.volumes
-source-within w mount c may cells =
-    let is = may.is in
-    subst (λ m. volume_named w.namespace m.source < length w.namespace.volumes) is.is
-    (c.boxes_placed.sources is.place mount is.within (ap is_cell_mount is.is ∙ ap (λ t. same_type t fs.Cell) cells))
+use Rattle.world_laws.specs.Mounted.{KeepsNode, KeepsSame, RemountedVolumeShowsItsFiles, ShowsKept, ShowsSame, UnmountedVolumeKeepsItsFiles, VolumeMountedLaterShowsItsFiles, kept_names, some_takes_volume}
 
 -- what a volume keeps of a node, and shows of what it keeps
 keeps-and-shows : (w v : WorldState) (homes : Homes) (volume : ℕ) (found : Option NodeKind) (name : Option KeptNode) (shown : Option NodeKind) →
@@ -62,7 +55,7 @@ unmounted-volume w k point_text mount path p c named found = λ cells e some.
     subst (λ there. KeepsNode w there (unmounted_world w mount).homes (volume_named (unmounted_world w mount).namespace mount.source)
     (value_at path_cmp p (kept_names (unmounted_world w mount).namespace mount.source)))
     (sym (ap (λ q. node_at w.namespace (q ++ p)) (sym (point-is w.namespace path mount found)) ∙ below-point w mount c may p ∙ below-root (tree_of w.namespace mount.number) p some))
-    (keeps-node w mount c may cells (source-within w mount c may cells) p (value_at path_cmp p (tree_of w.namespace mount.number)) refl))
+    (keeps-node w mount c may cells p (value_at path_cmp p (tree_of w.namespace mount.number)) refl))
     k named found e
 
 -- the volume of a mount that goes is not mounted then
@@ -98,7 +91,7 @@ module _ (w : WorldState) (mount : Mount) (again : Path) (c : IsConsistent w) (m
   keeps-there p found e =
       subst (λ names. KeepsNode w found later.homes (volume_named later.namespace mount.source) (value_at path_cmp p names)) (sym same.names)
       (keeps-later w left later mount.source found (value_at path_cmp p (kept_names left.namespace mount.source)) same
-      (keeps-node w mount c may cells (source-within w mount c may cells) p found e))
+      (keeps-node w mount c may cells p found e))
 
   shows-tree : (p : Path) → ShowsSame w (node_in (tree_of w.namespace mount.number) p) back (node_at back.namespace (again ++ p))
   shows-tree [] = root-there later again fs.Cell mount.source consistent begin
@@ -116,7 +109,7 @@ module _ (w : WorldState) (mount : Mount) (again : Path) (c : IsConsistent w) (m
 pub mounted-later : VolumeMountedLaterShowsItsFiles
 mounted-later w k j point_text again_text type_text mount path = λ again p run c named found cells e.
     where-unmounted w point_text path mount c
-    (λ left. MayRun left run → list_any (λ asked. takes_volume mount.source asked.step) run ≡ false →
+    (λ left. MayRun left run → some_takes_volume mount.source left run ≡ false →
     asked_path (run_steps left run).next.namespace j again_text ≡ Ok again → fs_type_of type_text ≡ Some fs.Cell →
     (world_step (run_steps left run).next (who.Session j) (step.Mount mount.source again_text type_text) mark.Clear).reply ≡ reply.Done →
     ShowsSame w (node_at w.namespace (path ++ p)) (world_step (run_steps left run).next (who.Session j) (step.Mount mount.source again_text type_text) mark.Clear).next

@@ -52,7 +52,7 @@ use Rattle.world_laws.proofs.steps.Adding.{with_one}
 use Rattle.world_laws.proofs.steps.MountEnd.{new_mount}
 use Rattle.world_laws.proofs.steps.StepKeeping.{is_mkfs}
 use Rattle.world_laws.proofs.steps.UmountKeeping.{found-at}
-use Rattle.world_laws.specs.Mounted.{is_cell_type, takes_volume}
+use Rattle.world_laws.specs.Mounted.{is_cell_type, asks_volume}
 
 none-reversed : {X : Type 0} (p : X → Bool) (xs : List X) → list_any p xs ≡ false → list_any p (reverse xs) ≡ false
 none-reversed p [] h = h
@@ -312,7 +312,7 @@ module _ (name : List ℕ) (n : Namespace) (off : is_mounted n fs.Cell name ≡ 
     shutdown-untouched (mark.NoMem moved) = same
     shutdown-untouched (mark.Fault moved) = untouched-beside name n (remove_all n).next (record (remove_all n).next { is_stopped = true }) (remove_all n).changes refl refl all-gone.untouched
 
-    answer-stays : (k : ℕ) (asked : Step) → is_mkfs asked ≡ false → takes_volume name asked ≡ false → Stays (namespace_answer n k asked)
+    answer-stays : (k : ℕ) (asked : Step) → is_mkfs asked ≡ false → asks_volume name asked ≡ false → Stays (namespace_answer n k asked)
     answer-stays k (step.Stat path) h l = stat-stays k path
     answer-stays k (step.Open path flags) h l = open-stays k path flags
     answer-stays k (step.Close hold) h l = give-up-stays role.Open k hold
@@ -354,7 +354,7 @@ module _ (name : List ℕ) (n : Namespace) (off : is_mounted n fs.Cell name ≡ 
     marked-untouched answer (mark.Fault moved) stays = same
     marked-untouched answer (mark.NoMem moved) stays = same
 
-    pub step-untouched : (k : ℕ) (asked : Step) (m : Mark) → is_mkfs asked ≡ false → takes_volume name asked ≡ false →
+    pub step-untouched : (k : ℕ) (asked : Step) (m : Mark) → is_mkfs asked ≡ false → asks_volume name asked ≡ false →
         Untouched name n (namespace_step n k asked m).next (namespace_step n k asked m).changes
     unfolding namespace_step
     step-untouched k step.Shutdown m h l = shutdown-untouched m

@@ -1,17 +1,21 @@
 -- What a volume keeps that is not mounted stays through each step of the world, and through any steps one after the other.
-use Rattle.std.proofs.Common.{◌≡◌, ◌≢◌, ℕ, ◌≤◌, Bool, true, false, not, Option, Some, None, List, [], ◌∷◌, length, fold, replicate, slice_index_or, inl, inr, refl, sym, ap, subst, ◌∙◌}
+use Rattle.std.proofs.Common.{◌≡◌, ◌≢◌, ℕ, ◌≤◌, Bool, true, false, not, ◌&&◌, Option, Some, None, List, [], ◌∷◌, length, fold, replicate, slice_index_or, inl, inr, refl, sym, ap, subst, ◌∙◌}
 use Rattle.std.proofs.lemmas.List.{set_past}
 use Rattle.std.proofs.lemmas.List.Folds.{position_or_len-set}
 use Rattle.std.specs.Cmp.Lexicographic.{bytes_decides}
 use Rattle.std.specs.List.{list_any}
 use Rattle.vfs_base.specs.declared.entry.Mark.{Mark}
 use Rattle.vfs_base.specs.declared.entry.Mark.TheVariants as mark
+use Rattle.vfs_base.specs.declared.entry.Who.{Who}
 use Rattle.vfs_base.specs.declared.errno.Errno.TheVariants as errno
 use Rattle.vfs_base.specs.declared.kinds.FsType.TheVariants as fs
+use Rattle.vfs_base.specs.declared.reply.Reply.{Reply}
 use Rattle.vfs_base.specs.declared.reply.Reply.TheVariants as reply
 use Rattle.vfs_base.specs.declared.step.Step.{Step}
 use Rattle.vfs_base.specs.declared.step.Step.TheVariants as step
+use Rattle.vfs_model.proofs.RefusedSteps.{is_refusal}
 use Rattle.vfs_model.proofs.Rests.{changed-namespace}
+use Rattle.vfs_model.proofs.WorldLaws.{refused-leaves}
 use Rattle.vfs_model.specs.Boxes.{IsConsistent}
 use Rattle.vfs_model.specs.Chain.{◌>>◌, refuse◌when◌}
 use Rattle.vfs_model.specs.Content.{is_mounted}
@@ -19,7 +23,7 @@ use Rattle.vfs_model.specs.FileLife.{no_volume, volume_at, volume_named}
 use Rattle.vfs_model.specs.Homes.{cell_bytes, change_row, with_empty_cells}
 use Rattle.vfs_model.specs.Namespace.{life_at, same_bytes}
 use Rattle.vfs_model.specs.NamespaceOutcome.{answers, settled}
-use Rattle.vfs_model.specs.NamespaceStep.{namespace_step}
+use Rattle.vfs_model.specs.NamespaceStep.{is_shutdown, namespace_step}
 use Rattle.vfs_model.specs.UmountSteps.{format_volume, mkfs_step}
 use Rattle.vfs_model.specs.World.{namespace_part, session_of, step_on, step_row, world_step}
 use Rattle.vfs_model.specs.declared.namespace.Namespace.{Namespace}
@@ -32,7 +36,7 @@ use Rattle.world_laws.proofs.parts.Untouched.{IsBare, Untouched, other-volume}
 use Rattle.world_laws.proofs.steps.MkfsKeeping.{no-life}
 use Rattle.world_laws.proofs.steps.VolumeStaying.{step-untouched}
 use Rattle.world_laws.proofs.steps.WorldSteps.{step-consistent}
-use Rattle.world_laws.specs.Mounted.{KeepsSame, KeptFilesStay, KeptFilesStayLater, kept_names, takes_volume}
+use Rattle.world_laws.specs.Mounted.{KeepsSame, KeptFilesStay, KeptFilesStayLater, asks_volume, is_refused, kept_names, takes_volume}
 
 -- no live file lies on a volume that is not mounted
 volume-bare : (n : Namespace) (name : List ℕ) → Stands Nothing n → is_mounted n fs.Cell name ≡ false → IsBare name n n
@@ -107,26 +111,41 @@ mkfs-keeps w k name other mark.Clear c off apart = by (not (list_any (λ volume.
     by false false = format-keeps w name other c off differ
 
 -- a step of the namespace
-part-keeps : (w : WorldState) (k : ℕ) (name : List ℕ) (asked : Step) (m : Mark) → IsConsistent w → is_mounted w.namespace fs.Cell name ≡ false → takes_volume name asked ≡ false →
+part-keeps : (w : WorldState) (k : ℕ) (name : List ℕ) (asked : Step) (m : Mark) → IsConsistent w → is_mounted w.namespace fs.Cell name ≡ false → asks_volume name asked ≡ false →
     KeepsSame w (namespace_part w (namespace_step w.namespace k asked m) asked).next name
 part-keeps w k name (step.Mkfs other) m c off free = mkfs-keeps w k name other m c off free
 part-keeps w k name asked m c off free =
     changed-keeps w name (namespace_step w.namespace k asked m).next (namespace_step w.namespace k asked m).changes
     (step-untouched name w.namespace off (volume-bare w.namespace name (stands-of w c) off) k asked m refl free)
 
-on-keeps : (w : WorldState) (k : ℕ) (name : List ℕ) (asked : Step) (m : Mark) (found : Option ℕ) → IsConsistent w → is_mounted w.namespace fs.Cell name ≡ false → takes_volume name asked ≡ false →
+on-keeps : (w : WorldState) (k : ℕ) (name : List ℕ) (asked : Step) (m : Mark) (found : Option ℕ) → IsConsistent w → is_mounted w.namespace fs.Cell name ≡ false → asks_volume name asked ≡ false →
     KeepsSame w (step_on w k asked m found).next name
 on-keeps w k name asked m None c off free = part-keeps w k name asked m c off free
 on-keeps w k name asked m (Some row) c off free = record { off = off; names = refl; bytes = λ cell. refl }
 
-pub kept-stays : KeptFilesStay
+step-keeps : (w : WorldState) (asker : Who) (asked : Step) (m : Mark) (name : List ℕ) → IsConsistent w → is_mounted w.namespace fs.Cell name ≡ false → asks_volume name asked ≡ false →
+    KeepsSame w (world_step w asker asked m).next name
 unfolding world_step
-kept-stays w asker asked m name c off free = on-keeps w (session_of asker) name asked m (step_row asked) c off free
+step-keeps w asker asked m name c off free = on-keeps w (session_of asker) name asked m (step_row asked) c off free
+
+-- the end asks for no volume
+asks-no-end : (name : List ℕ) (asked : Step) → asks_volume name asked ≡ true → is_shutdown asked ≡ false
+asks-no-end name step.Shutdown h = absurd (cc)
+asks-no-end name asked h = refl
+
+pub kept-stays : KeptFilesStay
+kept-stays w asker asked m name c off = λ free. by (asks_volume name asked) refl (world_step w asker asked m).reply refl free
+  where
+    by : (asks : Bool) → asks_volume name asked ≡ asks → (answer : Reply) → (world_step w asker asked m).reply ≡ answer → (asks && not (is_refused answer)) ≡ false →
+        KeepsSame w (world_step w asker asked m).next name
+    by false e answer f free = step-keeps w asker asked m name c off e
+    by true e (reply.Refused errno) f free = subst (λ v. KeepsSame w v name) (sym (refused-leaves w asker asked m (asks-no-end name asked e) (ap is_refusal f))) (keeps-same w name off)
+    by true e answer f free = absurd (cc)
 
 pub kept-stays-later : KeptFilesStayLater
 kept-stays-later [] w name c may off free = keeps-same w name off
 kept-stays-later (asked ∷ later) w name c may off free =
-    let first = kept-stays w asked.who asked.step asked.mark name c off (nor-first (takes_volume name asked.step) _ free) in
+    let first = kept-stays w asked.who asked.step asked.mark name c off (nor-first (takes_volume name asked.step (world_step w asked.who asked.step asked.mark).reply) _ free) in
     let rest = kept-stays-later later (world_step w asked.who asked.step asked.mark).next name (step-consistent w asked.who asked.step asked.mark c may.0 may.1 may.2) may.3 first.off
-    (nor-second (takes_volume name asked.step) _ free) in
+    (nor-second (takes_volume name asked.step (world_step w asked.who asked.step asked.mark).reply) _ free) in
     record { off = rest.off; names = rest.names ∙ first.names; bytes = λ cell. rest.bytes cell ∙ first.bytes cell }
