@@ -1,5 +1,5 @@
 -- Lists, trees and places: what a test that holds somewhere tells, and where.
-use Rattle.std.proofs.Common.{◌≡◌, ◌≢◌, ℕ, zero, suc, ◌<◌, ◌≤◌, ◌==◌, Bool, true, false, cond, ◌&&◌, ◌||◌, T, Option, Some, None, unwrap_or, List, [], ◌∷◌, length, slice_index_or, slice_set, ◌⊎◌, inl, inr, refl, ap, ◌∙◌, arith}
+use Rattle.std.proofs.Common.{◌≡◌, ◌≢◌, ℕ, zero, suc, ◌<◌, ◌≤◌, ◌==◌, Bool, true, false, cond, ◌&&◌, ◌||◌, T, Option, Some, None, unwrap_or, List, [], ◌∷◌, length, find, slice_index_or, slice_set, ◌⊎◌, inl, inr, if◌then◌else◌, refl, ap, ◌∙◌, arith}
 use Rattle.std.proofs.lemmas.Bool.Decides.{eqb_tells, leb_tells}
 use Rattle.std.proofs.lemmas.Cmp.{tied_itself}
 use Rattle.std.proofs.lemmas.List.{get_or-set_other, get_or-set_same, get_or_past}
@@ -101,6 +101,15 @@ first-within p xs d h = elim (below-or-past (position_or_len p xs) (length xs)) 
 
 pub same-some : {X : Type 0} (x y : X) → Some x ≡ Some y → x ≡ y
 same-some x y e = ap (λ found. unwrap_or found x) e
+
+-- what a search finds is one of the list
+pub found-any : {X : Type 0} (p q : X → Bool) (xs : List X) (x : X) → find p xs ≡ Some x → q x ≡ true → list_any q xs ≡ true
+found-any p q [] x e h = absurd (cc)
+found-any p q (y ∷ xs) x e h = at (p y) e (λ later. found-any p q xs x later h)
+  where
+    at : (b : Bool) → (if b then Some y else find p xs) ≡ Some x → (find p xs ≡ Some x → list_any q xs ≡ true) → (q y || list_any q xs) ≡ true
+    at true k later = or-first (q y) (list_any q xs) (ap q (same-some y x k) ∙ h)
+    at false k later = or-second (q y) (list_any q xs) (later k)
 
 -- a place of a list of options at which something stands is within
 pub some-within : {X : Type 0} (xs : List (Option X)) (place : ℕ) (x : X) → slice_index_or xs place None ≡ Some x → place < length xs

@@ -39,7 +39,7 @@ SourcesNamed n = (place : ℕ) (d : Mount) → place < length (all_mounts n) →
 -- and so where the volumes have the names that they had
 pub sources-beside : (n m : Namespace) → all_mounts m ≡ all_mounts n → ((name : List ℕ) → volume_named m name ≡ volume_named n name) → length m.volumes ≡ length n.volumes →
     SourcesNamed n → SourcesNamed m
-sources-beside n m mounts names many h place d l k =
+sources-beside n m mounts names many h = λ place d l k.
     let old = h place d (subst (λ ms. place < length ms) mounts l) (sym (ap (λ ms. is_cell_mount (slice_index_or ms place d)) mounts) ∙ k) in
     let name = names (slice_index_or (all_mounts m) place d).source in
     let same = ap (λ ms. volume_named n (slice_index_or ms place d).source) mounts in

@@ -1,5 +1,5 @@
 -- A volume that is not mounted keeps what it kept, through changes of rows and of the names that other volumes keep.
-use Rattle.std.proofs.Common.{◌≡◌, ◌≢◌, ℕ, ◌+◌, ◌-◌, ◌<◌, ◌≤◌, Bool, true, false, not, ◌&&◌, ◌==◌, Some, None, List, [], ◌∷◌, ◌++◌, length, filter, fold, slice_index_or, slice_set, ◌⊎◌, inl, inr, if◌then◌else◌, refl, sym, ap, subst, ◌∙◌}
+use Rattle.std.proofs.Common.{◌≡◌, ◌≢◌, ℕ, ◌+◌, ◌-◌, ◌<◌, ◌≤◌, Bool, true, false, not, ◌&&◌, ◌==◌, Some, None, List, [], ◌∷◌, ◌++◌, length, fold, slice_index_or, slice_set, ◌⊎◌, inl, inr, refl, sym, ap, subst, ◌∙◌}
 use Rattle.std.proofs.lemmas.List.{set_past}
 use Rattle.std.proofs.lemmas.List.Folds.{position_or_len-set}
 use Rattle.std.proofs.lemmas.List.Sums.{fold-append, passes_at_first}
@@ -29,6 +29,7 @@ use Rattle.vfs_model.specs.declared.namespace.RowChange.TheVariants as change
 use Rattle.vfs_model.specs.declared.world.FileState.{FileState}
 use Rattle.vfs_model.specs.declared.world.Homes.{Homes}
 use Rattle.vfs_model.specs.declared.world.WorldState.{WorldState}
+use Rattle.world_laws.proofs.lists.Filters.{none-filtered}
 use Rattle.world_laws.proofs.lists.Lists.{below-or-past, neither, nor-first, nor-second, set-there}
 use Rattle.world_laws.proofs.parts.AtHome.{no-cell}
 use Rattle.world_laws.proofs.parts.Taking.{cell-kept, cell-named, set-at}
@@ -62,14 +63,6 @@ other-volume m source name differ = elim (below-or-past (volume_named m source) 
       (bytes_decides (volume_at m (volume_named m name)).name name).0 (passes_at_first (λ v. same_bytes v.name name) m.volumes no_volume (subst (λ k. k < length m.volumes) e l)) in
       differ (sym own ∙ ap (λ k. (volume_at m k).name) e ∙ other))
 ]
-
-none-filtered : {X : Type 0} (p q : X → Bool) (xs : List X) → list_any p xs ≡ false → list_any p (filter q xs) ≡ false
-none-filtered p q [] h = h
-none-filtered p q (x ∷ xs) h = by (q x) (none-filtered p q xs (nor-second (p x) (list_any p xs) h))
-  where
-    by : (b : Bool) → list_any p (filter q xs) ≡ false → list_any p (if b then x ∷ filter q xs else filter q xs) ≡ false
-    by true later = neither (p x) _ (nor-first (p x) (list_any p xs) h) later
-    by false later = later
 
 module _ (name : List ℕ) (n : Namespace) where
   abbrev volume : ℕ

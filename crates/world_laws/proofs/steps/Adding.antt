@@ -26,6 +26,7 @@ use Rattle.world_laws.proofs.parts.Binding.{Rest}
 use Rattle.world_laws.proofs.lists.Lists.{below-or-past, no-place, number-itself, or-first, true-or-false}
 use Rattle.world_laws.proofs.parts.Nodes.{at-rest, prefix-itself}
 use Rattle.world_laws.proofs.parts.Standing.{Nothing, Stands}
+use Rattle.world_laws.proofs.parts.Taking.{SourcesNamed}
 
 -- a mount that may come: on a folder without nodes, with no point at or below its own, with a number of its own, and of a volume that there is
 pub record MayMount (n : Namespace) (mount : Mount) : Type 0 where
@@ -221,3 +222,10 @@ module _ (n : Namespace) (mount : Mount) (s : Stands Nothing n) (may : MayMount 
   one-live_files row life h =
       let before = s.live_files row life h in
       subst (λ found. IsSomeAnd found (λ m. fits_mount n life m ≡ true)) (sym (still-found life.mount (mount_numbered n life.mount) refl (λ m. fits_mount n life m ≡ true) before)) before
+
+  -- each mount's source is the name of a volume, the new one's too
+  pub named-sources : SourcesNamed (with_one n mount)
+  named-sources place d l k = elim (placed (all_mounts n) mount place d l).is [
+    | inl x ↦ subst (λ m. volume_named n m.source < length n.volumes) (sym x.1) (s.boxes.sources place d x.0 (sym (ap is_cell_mount x.1) ∙ k))
+    | inr x ↦ subst (λ m. volume_named n m.source < length n.volumes) (sym x.1) (may.sourced (sym (ap is_cell_mount x.1) ∙ k))
+  ]

@@ -40,8 +40,8 @@ use Rattle.world_laws.proofs.steps.Filling.{InTree, content_shape, node_shape, s
 use Rattle.world_laws.proofs.parts.FreeRows.{free_count}
 use Rattle.world_laws.proofs.parts.Growing.{MayStand, tree-other, tree-own, tree-stands}
 use Rattle.world_laws.proofs.steps.Keeping.{Keeps, Kept, bind-kept, then-kept, there-folder, wanted-kept}
-use Rattle.world_laws.proofs.lists.Lists.{below-or-past, first-within, nor-first, nor-second, or-first, or-second, number-itself, same-number, same-some, true-or-false}
-use Rattle.world_laws.proofs.steps.MountKeeping.{Begun, begun, found-any}
+use Rattle.world_laws.proofs.lists.Lists.{below-or-past, first-within, found-any, nor-first, nor-second, or-first, or-second, number-itself, same-number, same-some, true-or-false}
+use Rattle.world_laws.proofs.steps.MountKeeping.{Begun, begun}
 use Rattle.world_laws.proofs.steps.MoveKeeping.{plain-folder, within-or-not}
 use Rattle.world_laws.proofs.steps.NameKeeping.{not-root}
 use Rattle.world_laws.proofs.lists.Passing.{refuse-passed, then-first, then-rest}

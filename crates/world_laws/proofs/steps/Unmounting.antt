@@ -31,7 +31,7 @@ use Rattle.vfs_model.specs.declared.namespace.Namespace.{Namespace}
 use Rattle.world_laws.proofs.parts.Binding.{Rest}
 use Rattle.world_laws.proofs.parts.Covering.{IsMount, one-number}
 use Rattle.world_laws.proofs.parts.Emptying.{InRows, RowsLeft, of-mount}
-use Rattle.world_laws.proofs.lists.Filters.{PassingDiffer, filter-holds, kept-apart, kept_place, kept-rising, kept-within}
+use Rattle.world_laws.proofs.lists.Filters.{PassingDiffer, filter-holds, kept-apart, kept_place, kept-rising, kept-within, none-filtered}
 use Rattle.world_laws.proofs.lists.Leaving.{in-left, rows-in, rows-left}
 use Rattle.world_laws.proofs.lists.Lists.{AnyPlace, any-place, below-or-past, no-place, number-itself, or-either, or-first, or-second, other-number, same-number, same-or-other, same-some, set-here, set-there, some-within, true-or-false}
 use Rattle.world_laws.proofs.lists.Passing.{and-first, and-second}
@@ -373,27 +373,13 @@ module _ (n : Namespace) (mount : Mount) (s : Stands Nothing n) (may : MayLeave 
 
   -- which mounts have a volume then
   mounted-less : (f : FsType) (name : List ℕ) → is_mounted (left_by n mount f) fs.Cell name ≡ true → is_mounted n fs.Cell name ≡ true
-  mounted-less f name h = fewer (all_mounts n) (sym (ap (list_any (λ m. same_type m.fs fs.Cell && same_bytes m.source name)) (all-left f)) ∙ h)
-    where
-      fewer : (mounts : List Mount) → list_any (λ m. same_type m.fs fs.Cell && same_bytes m.source name) (filter (stays mount.number) mounts) ≡ true →
-          list_any (λ m. same_type m.fs fs.Cell && same_bytes m.source name) mounts ≡ true
-      fewer [] k = k
-      fewer (m ∷ mounts) k = by (stays mount.number m) refl (fewer mounts)
-        where
-          by : (b : Bool) → stays mount.number m ≡ b → (list_any (λ m. same_type m.fs fs.Cell && same_bytes m.source name) (filter (stays mount.number) mounts) ≡ true →
-              list_any (λ m. same_type m.fs fs.Cell && same_bytes m.source name) mounts ≡ true) →
-              (same_type m.fs fs.Cell && same_bytes m.source name || list_any (λ m. same_type m.fs fs.Cell && same_bytes m.source name) mounts) ≡ true
-          by true e later =
-              either (or-either (same_type m.fs fs.Cell && same_bytes m.source name) (list_any (λ m. same_type m.fs fs.Cell && same_bytes m.source name) (filter (stays mount.number) mounts))
-              (sym (ap (λ b. list_any (λ m. same_type m.fs fs.Cell && same_bytes m.source name) (if b then m ∷ filter (stays mount.number) mounts else filter (stays mount.number) mounts)) e) ∙ k))
-            where
-              either : ((same_type m.fs fs.Cell && same_bytes m.source name) ≡ true) ⊎ (list_any (λ m. same_type m.fs fs.Cell && same_bytes m.source name) (filter (stays mount.number) mounts) ≡ true) →
-                  (same_type m.fs fs.Cell && same_bytes m.source name || list_any (λ m. same_type m.fs fs.Cell && same_bytes m.source name) mounts) ≡ true
-              either (inl x) = or-first (same_type m.fs fs.Cell && same_bytes m.source name) _ x
-              either (inr x) = or-second (same_type m.fs fs.Cell && same_bytes m.source name) _ (later x)
-          by false e later =
-              or-second (same_type m.fs fs.Cell && same_bytes m.source name) _
-              (later (sym (ap (λ b. list_any (λ m. same_type m.fs fs.Cell && same_bytes m.source name) (if b then m ∷ filter (stays mount.number) mounts else filter (stays mount.number) mounts)) e) ∙ k))
+  mounted-less f name h = elim (true-or-false (is_mounted n fs.Cell name)) [
+    | inl is ↦ is
+    | inr off ↦
+        let test : Mount → Bool = λ m. same_type m.fs fs.Cell && same_bytes m.source name in
+        let none = ap (list_any test) (all-left f) ∙ none-filtered test (stays mount.number) (all_mounts n) off in
+        absurd (cc)
+  ]
 
   sources-left : (f : FsType) → PassingDiffer is_cell_mount (λ m. m.source) (all_mounts (left_by n mount f))
   sources-left f place other d l m k j e =
