@@ -5,7 +5,7 @@ use Rattle.vfs_base.specs.Path.{Path, path_cmp}
 use Rattle.vfs_base.specs.declared.describe.CharsShape.{CharsShape}
 use Rattle.vfs_base.specs.declared.describe.Describe.{Describe}
 use Rattle.vfs_base.specs.declared.describe.VolumeShape.{VolumeShape}
-use Rattle.vfs_model.specs.Boxes.{BoxesPlaced, CellsFit, HasSizes, HomesFit, IsConsistent, RomsClosed, fits_kind, is_kept_dir, one_if}
+use Rattle.vfs_model.specs.Boxes.{BoxesPlaced, CellsFit, HasSizes, HomesFit, IsConsistent, RomsClosed, fits_kind, is_cell_mount, is_kept_dir, one_if}
 use Rattle.vfs_model.specs.Consistency.{FoldersStand, IsClosedTree, LivesFit, ReferencesLive, RowsUsed, agrees}
 use Rattle.vfs_model.specs.FileLife.{no_device, no_volume}
 use Rattle.vfs_model.specs.Homes.{empty_cells, file_at, opening_home, opening_world}
@@ -140,6 +140,7 @@ module _ (roms : List RomImage) (describe : Describe) where
     mounted = λ volume h. opened-keeps describe.volumes volume;
     kept = λ volume. subst (IsClosedTree is_kept_dir) (sym (opened-keeps describe.volumes volume)) (empty-closed is_kept_dir);
     sources_differ = λ place other d l m e. absurd (omega (arith, l));
+    sources = λ place d l h. let none : is_cell_mount (slice_index_or (root_mount ∷ []) place d) ≡ false = ap is_cell_mount (one-place place root_mount d l) in absurd (cc);
     named = λ volume. inl (opened-keeps describe.volumes volume);
   }
 

@@ -82,6 +82,9 @@ pub record BoxesPlaced (n : Namespace) : Type 0 where
   pub kept : (volume : ℕ) → IsClosedTree is_kept_dir (volume_at n volume).kept
   -- a volume is mounted once
   pub sources_differ : AllDiffer (λ mount. mount.source) (filter is_cell_mount (all_mounts n))
+  -- the source of each cell mount is the name of a volume
+  pub sources : (place : ℕ) (d : Mount) → place < length (all_mounts n) → is_cell_mount (slice_index_or (all_mounts n) place d) ≡ true →
+      volume_named n (slice_index_or (all_mounts n) place d).source < length n.volumes
   -- of volumes with one name, which no description has, the first alone is ever mounted
   pub named : (volume : ℕ) → ((volume_at n volume).kept ≡ []) ⊎ (volume_named n (volume_at n volume).name ≡ volume)
 

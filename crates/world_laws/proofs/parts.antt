@@ -20,3 +20,4 @@ pub mod Standing
 pub mod Taking
 pub mod TreeMoves
 pub mod TreeParts
+pub mod Untouched

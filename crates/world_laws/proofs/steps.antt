@@ -29,6 +29,8 @@ pub mod UmountKeeping
 pub mod Unmounting
 pub mod Vacating
 pub mod VolumeMount
+pub mod VolumeStaying
+pub mod VolumeSteps
 pub mod VolumeUmount
 pub mod WorldKeeping
 pub mod WorldSteps

@@ -15,16 +15,18 @@
 // - folders stand: Covering, Points, Clear
 // - trees are closed: Nodes, Growing, Removing, TreeParts, TreeMoves; what a mount begins with: Contents
 // - boxes are placed, live files fit: Taking, Binding, Freeing, Emptying; what changes nothing of it: Beside
+// - a volume that is not mounted keeps the same: Untouched
 //
 // `steps`: Keeping says what a step keeps, and StepKeeping has a case for each.
 // - on names: NameKeeping; Open: OpenKeeping; Close, Map, Unmap: FileKeepingSteps; Rename: Renaming, MoveKeeping
 // - Mount: Adding, MountKeeping, Filling, BoundFiles, FillApart, FillAll, MountEnd; what stands below its point then: MountedNodes, RomMount, VolumeMount
-// - Umount: Unmounting, Vacating, MountRemoval, UmountKeeping; what a volume keeps then: KeptBytes, VolumeUmount; both one after the other: Remounting
+// - Umount: Unmounting, Vacating, MountRemoval, UmountKeeping; what a volume keeps then: KeptBytes, VolumeUmount
 // - Mkfs: MkfsKeeping; Shutdown: Resting, RootRemoval, ShutdownKeeping
+// - what a volume keeps while it is not mounted: VolumeStaying, VolumeSteps; an unmount, any steps and a mount again: Remounting
 // - of one file: WorldKeeping; every step and every list of steps: WorldSteps; the start: Opening
 // - every schedule of a script: ScriptKeeping; what it asks: ScriptAsking
 
-ghost use Rattle.world_laws.specs.Mounted.{MountedRomShowsItsFiles, MountedVolumeShowsItsFiles, RemountedVolumeShowsItsFiles, UnmountedVolumeKeepsItsFiles};
+ghost use Rattle.world_laws.specs.Mounted.{KeptFilesStay, KeptFilesStayLater, MountedRomShowsItsFiles, MountedVolumeShowsItsFiles, RemountedVolumeShowsItsFiles, UnmountedVolumeKeepsItsFiles, VolumeMountedLaterShowsItsFiles};
 ghost use Rattle.world_laws.specs.Keeping.{AskedMayBeTaken, FileStepsKeepConsistency, OpeningIsConsistent, RunsKeepConsistency, StepsKeepConsistency};
 ghost use Rattle.world_laws.specs.Scripts.{ScriptStepsMayBeAsked, ScriptsStayConsistent};
 
@@ -81,4 +83,19 @@ pub fn unmounted_volume_keeps_its_files()
 /// A volume that is unmounted and mounted again, at the same path or at another, shows the same folders and the same files, with the same bytes.
 pub fn remounted_volume_shows_its_files()
     ensures { RemountedVolumeShowsItsFiles }
+{}
+
+/// What a volume keeps that is not mounted stays through each step that neither formats it nor mounts it, the end too: its folders, its files and their bytes.
+pub fn kept_files_stay()
+    ensures { KeptFilesStay }
+{}
+
+/// It stays through any such steps that are taken one after the other.
+pub fn kept_files_stay_later()
+    ensures { KeptFilesStayLater }
+{}
+
+/// A volume that is unmounted and mounted again after any such steps shows the same folders and the same files, with the same bytes.
+pub fn volume_mounted_later_shows_its_files()
+    ensures { VolumeMountedLaterShowsItsFiles }
 {}

@@ -1,7 +1,8 @@
 -- The places of what a filter keeps.
 use Rattle.std.proofs.Common.{◌≡◌, ℕ, zero, suc, ◌<◌, Bool, true, false, List, [], ◌∷◌, length, filter, slice_index_or, inl, inr, if◌then◌else◌, refl, sym, ap, ◌∙◌, arith}
+use Rattle.std.specs.List.{list_any}
 use Rattle.vfs_model.specs.Consistency.{AllDiffer}
-use Rattle.world_laws.proofs.lists.Lists.{below-or-past}
+use Rattle.world_laws.proofs.lists.Lists.{below-or-past, neither, nor-first, nor-second}
 
 -- where an item that a filter keeps stood
 abbrev pub place_step : Bool → ℕ → (ℕ → ℕ) → ℕ
@@ -103,3 +104,12 @@ kept-differ test value xs differ = λ place other d l m e.
     kept-apart test xs place other l m
     (differ (kept_place test xs place) (kept_place test xs other) d a.0 b.0
     (sym (ap test a.1) ∙ filter-holds test xs place d l) (sym (ap test b.1) ∙ filter-holds test xs other d m) (sym (ap value a.1) ∙ e ∙ ap value b.1))
+
+-- what none of a list passes, none that a filter keeps passes
+pub none-filtered : {X : Type 0} (p q : X → Bool) (xs : List X) → list_any p xs ≡ false → list_any p (filter q xs) ≡ false
+none-filtered p q [] h = h
+none-filtered p q (x ∷ xs) h = by (q x) (none-filtered p q xs (nor-second (p x) (list_any p xs) h))
+  where
+    by : (b : Bool) → list_any p (filter q xs) ≡ false → list_any p (if b then x ∷ filter q xs else filter q xs) ≡ false
+    by true later = neither (p x) _ (nor-first (p x) (list_any p xs) h) later
+    by false later = later

@@ -1,10 +1,11 @@
 -- Lists, trees and places: what a test that holds somewhere tells, and where.
-use Rattle.std.proofs.Common.{◌≡◌, ◌≢◌, ℕ, zero, suc, ◌<◌, ◌≤◌, ◌==◌, Bool, true, false, cond, ◌&&◌, ◌||◌, T, Option, Some, None, unwrap_or, List, [], ◌∷◌, length, slice_index_or, slice_set, ◌⊎◌, inl, inr, refl, ap, ◌∙◌, arith}
+use Rattle.std.proofs.Common.{◌≡◌, ◌≢◌, ℕ, zero, suc, ◌<◌, ◌≤◌, ◌==◌, Bool, true, false, cond, ◌&&◌, ◌||◌, T, Option, Some, None, unwrap_or, List, [], ◌∷◌, length, find, slice_index_or, slice_set, ◌⊎◌, inl, inr, if◌then◌else◌, refl, ap, ◌∙◌, arith}
 use Rattle.std.proofs.lemmas.Bool.Decides.{eqb_tells, leb_tells}
 use Rattle.std.proofs.lemmas.Cmp.{tied_itself}
 use Rattle.std.proofs.lemmas.List.{get_or-set_other, get_or-set_same, get_or_past}
+use Rattle.std.proofs.lemmas.List.Sums.{fails_before_first}
 use Rattle.std.specs.FinMap.Entries.{below_all, find as value_at, is_sorted}
-use Rattle.std.specs.List.{list_any}
+use Rattle.std.specs.List.{list_any, position_or_len}
 use Rattle.std.specs.Ordering.{eq_by_cmp, is_eq, is_lt}
 use Rattle.std.specs.declared.cmp.Ordering.{Ordering}
 use Rattle.std.specs.declared.cmp.Ordering.TheVariants.{Less, Equal, Greater}
@@ -86,8 +87,29 @@ place-any p [] place d l h = absurd (omega arith)
 place-any p (x ∷ xs) zero d l h = or-first (p x) (list_any p xs) h
 place-any p (x ∷ xs) (suc place) d l h = or-second (p x) (list_any p xs) (place-any p xs place d (omega arith) h)
 
+-- the first that passes is one of the list, where one passes
+pub first-within : {X : Type 0} (p : X → Bool) (xs : List X) (d : X) → list_any p xs ≡ true → position_or_len p xs < length xs
+first-within p xs d h = elim (below-or-past (position_or_len p xs) (length xs)) [
+  | inl l ↦ l
+  | inr past ↦
+      let at = any-place p xs d h in
+      let l = at.within in
+      let yes = at.holds in
+      let no = fails_before_first p xs at.place d (omega (arith, l, past)) in
+      absurd (cc)
+]
+
 pub same-some : {X : Type 0} (x y : X) → Some x ≡ Some y → x ≡ y
 same-some x y e = ap (λ found. unwrap_or found x) e
+
+-- what a search finds is one of the list
+pub found-any : {X : Type 0} (p q : X → Bool) (xs : List X) (x : X) → find p xs ≡ Some x → q x ≡ true → list_any q xs ≡ true
+found-any p q [] x e h = absurd (cc)
+found-any p q (y ∷ xs) x e h = at (p y) e (λ later. found-any p q xs x later h)
+  where
+    at : (b : Bool) → (if b then Some y else find p xs) ≡ Some x → (find p xs ≡ Some x → list_any q xs ≡ true) → (q y || list_any q xs) ≡ true
+    at true k later = or-first (q y) (list_any q xs) (ap q (same-some y x k) ∙ h)
+    at false k later = or-second (q y) (list_any q xs) (later k)
 
 -- a place of a list of options at which something stands is within
 pub some-within : {X : Type 0} (xs : List (Option X)) (place : ℕ) (x : X) → slice_index_or xs place None ≡ Some x → place < length xs

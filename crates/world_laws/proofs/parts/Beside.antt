@@ -24,6 +24,7 @@ boxes-beside n trees working_directories references generations boxes = record {
   mounted = boxes.mounted;
   kept = boxes.kept;
   sources_differ = boxes.sources_differ;
+  sources = boxes.sources;
   named = boxes.named;
 }
 

@@ -1,5 +1,5 @@
 -- What a live file lies on: cells and devices, taken and given back.
-use Rattle.std.proofs.Common.{◌≡◌, ◌≢◌, ℕ, ◌+◌, ◌-◌, ◌<◌, Bool, true, false, Option, None, List, [], length, slice_index_or, slice_set, ◌⊎◌, inl, inr, refl, sym, ap, subst, ◌∙◌}
+use Rattle.std.proofs.Common.{◌≡◌, ◌≢◌, ℕ, ◌+◌, ◌-◌, ◌<◌, Bool, true, false, Option, None, List, [], length, slice_index_or, slice_set, ◌⊎◌, inl, inr, refl, sym, ap, subst, ◌∙◌, arith}
 use Rattle.std.proofs.lemmas.List.{length-set, set_past}
 use Rattle.std.proofs.lemmas.List.Folds.{position_or_len-set}
 use Rattle.std.proofs.lemmas.List.Sums.{sum_by-set}
@@ -11,6 +11,7 @@ use Rattle.vfs_model.specs.FileLife.{no_device, no_volume, volume_at, volume_nam
 use Rattle.vfs_model.specs.Namespace.{all_mounts, life_at, same_bytes}
 use Rattle.vfs_base.specs.declared.kinds.FsType.TheVariants as fs
 use Rattle.vfs_model.specs.declared.namespace.LiveFile.{LiveFile}
+use Rattle.vfs_model.specs.declared.namespace.Mount.{Mount}
 use Rattle.vfs_model.specs.declared.namespace.Namespace.{Namespace}
 use Rattle.world_laws.proofs.lists.Filters.{PassingDiffer, kept-differ, passing-differ}
 use Rattle.world_laws.proofs.lists.Lists.{below-or-past, same-or-other, set-here, set-there}
@@ -30,6 +31,20 @@ pub count-set : {X : Type 0} (p : X → Bool) (xs : List X) (place : ℕ) (x d :
     count_by p (slice_set xs place x) + one_if (p (slice_index_or xs place d)) ≡ count_by p xs + one_if (p x)
 count-set p xs place x d l = sum_by-set (λ x. one_if (p x)) xs place x d l
 
+-- the source of each cell mount is the name of a volume
+abbrev pub SourcesNamed : Namespace → Type 0
+SourcesNamed n = (place : ℕ) (d : Mount) → place < length (all_mounts n) → is_cell_mount (slice_index_or (all_mounts n) place d) ≡ true →
+    volume_named n (slice_index_or (all_mounts n) place d).source < length n.volumes
+
+-- and so where the volumes have the names that they had
+pub sources-beside : (n m : Namespace) → all_mounts m ≡ all_mounts n → ((name : List ℕ) → volume_named m name ≡ volume_named n name) → length m.volumes ≡ length n.volumes →
+    SourcesNamed n → SourcesNamed m
+sources-beside n m mounts names many h = λ place d l k.
+    let old = h place d (subst (λ ms. place < length ms) mounts l) (sym (ap (λ ms. is_cell_mount (slice_index_or ms place d)) mounts) ∙ k) in
+    let name = names (slice_index_or (all_mounts m) place d).source in
+    let same = ap (λ ms. volume_named n (slice_index_or ms place d).source) mounts in
+    omega (arith, old, name, same, many)
+
 -- all that is said of cells and devices but how many files have each
 pub record BoxesBut (n : Namespace) : Type 0 where
   pub spares : (volume : ℕ) → length (volume_at n volume).spare ≡ length (volume_at n volume).pages
@@ -37,6 +52,7 @@ pub record BoxesBut (n : Namespace) : Type 0 where
   pub mounted : (volume : ℕ) → is_mounted n fs.Cell (volume_at n volume).name ≡ true → (volume_at n volume).kept ≡ []
   pub kept : (volume : ℕ) → IsClosedTree is_kept_dir (volume_at n volume).kept
   pub sources_differ : PassingDiffer is_cell_mount (λ mount. mount.source) (all_mounts n)
+  pub sources : SourcesNamed n
   pub named : (volume : ℕ) → ((volume_at n volume).kept ≡ []) ⊎ (volume_named n (volume_at n volume).name ≡ volume)
 
 abbrev pub CellsPlaced : Namespace → Type 0
@@ -53,6 +69,7 @@ boxes-but n boxes = record {
   mounted = boxes.mounted;
   kept = boxes.kept;
   sources_differ = passing-differ is_cell_mount (λ mount. mount.source) (all_mounts n) boxes.sources_differ;
+  sources = boxes.sources;
   named = boxes.named;
 }
 
@@ -65,6 +82,7 @@ boxes-all n cells devices boxes = record {
   mounted = boxes.mounted;
   kept = boxes.kept;
   sources_differ = kept-differ is_cell_mount (λ mount. mount.source) (all_mounts n) boxes.sources_differ;
+  sources = boxes.sources;
   named = boxes.named;
 }
 
@@ -97,6 +115,7 @@ but-cell b n volume cell boxes = record {
   mounted = λ other h. cell-kept b n volume cell other ∙ boxes.mounted other (sym (ap (is_mounted n fs.Cell) (cell-name b n volume cell other)) ∙ h);
   kept = λ other. subst (IsClosedTree is_kept_dir) (sym (cell-kept b n volume cell other)) (boxes.kept other);
   sources_differ = boxes.sources_differ;
+  sources = sources-beside n (with_cell b n volume cell) refl (cell-named b n volume cell) (length-set n.volumes volume (with_spare_cell b cell (volume_at n volume))) boxes.sources;
   named = λ other. elim (boxes.named other) [
     | inl h ↦ inl (cell-kept b n volume cell other ∙ h)
     | inr h ↦ inr (cell-named b n volume cell _ ∙ ap (volume_named n) (cell-name b n volume cell other) ∙ h)
@@ -104,7 +123,7 @@ but-cell b n volume cell boxes = record {
 }
 
 pub but-device : (b : Bool) (n : Namespace) (device : ℕ) → BoxesBut n → BoxesBut (with_device b n device)
-but-device b n device boxes = record { spares = boxes.spares; kinds = boxes.kinds; mounted = boxes.mounted; kept = boxes.kept; sources_differ = boxes.sources_differ; named = boxes.named }
+but-device b n device boxes = record { spares = boxes.spares; kinds = boxes.kinds; mounted = boxes.mounted; kept = boxes.kept; sources_differ = boxes.sources_differ; sources = boxes.sources; named = boxes.named }
 
 -- a row becomes a live file, or free
 abbrev pub with_life : Namespace → ℕ → Option LiveFile → List ℕ → Namespace
@@ -117,6 +136,7 @@ but-life n row found generations fits boxes = record {
   mounted = boxes.mounted;
   kept = boxes.kept;
   sources_differ = boxes.sources_differ;
+  sources = boxes.sources;
   named = boxes.named;
 }
 

@@ -13,7 +13,9 @@ use Rattle.vfs_model.proofs.EmptyMounts.{empty-changes-nothing}
 use Rattle.vfs_model.proofs.MountLaws.{nearer-old, nearest-append}
 use Rattle.vfs_model.proofs.MountsApart.{standing-apart}
 use Rattle.vfs_model.proofs.Trees.{same_path-itself, same_path-other}
+use Rattle.vfs_model.specs.Boxes.{is_cell_mount}
 use Rattle.vfs_model.specs.Consistency.{FoldersStand, LivesFit, ReferencesLive, covered_mount, fits_mount, is_number, mount_numbered, stands_on_folder}
+use Rattle.vfs_model.specs.FileLife.{volume_named}
 use Rattle.vfs_model.specs.Laws.{HasNoPoint, with_mount}
 use Rattle.vfs_model.specs.Lookup.{covering_mount, has_nodes, is_below, is_dir_node, is_prefix, nearest, node_at, node_in}
 use Rattle.vfs_model.specs.Namespace.{all_mounts, folder_of, same_path, tree_of}
@@ -24,8 +26,9 @@ use Rattle.world_laws.proofs.parts.Binding.{Rest}
 use Rattle.world_laws.proofs.lists.Lists.{below-or-past, no-place, number-itself, or-first, true-or-false}
 use Rattle.world_laws.proofs.parts.Nodes.{at-rest, prefix-itself}
 use Rattle.world_laws.proofs.parts.Standing.{Nothing, Stands}
+use Rattle.world_laws.proofs.parts.Taking.{SourcesNamed}
 
--- a mount that may come: on a folder without nodes, with no point at or below its own, and with a number of its own
+-- a mount that may come: on a folder without nodes, with no point at or below its own, with a number of its own, and of a volume that there is
 pub record MayMount (n : Namespace) (mount : Mount) : Type 0 where
   pub folder : node_at n mount.point ≡ Some node.Dir
   pub bare : has_nodes n mount.point ≡ false
@@ -33,6 +36,7 @@ pub record MayMount (n : Namespace) (mount : Mount) : Type 0 where
   pub own : list_any (λ other. other.number == mount.number) (all_mounts n) ≡ false
   pub small : mount.number < 16
   pub room : length n.mounts < 15
+  pub sourced : is_cell_mount mount ≡ true → volume_named n mount.source < length n.volumes
 
 abbrev pub with_one : Namespace → Mount → Namespace
 with_one n mount = record n { mounts = n.mounts ++ mount ∷ [] }
@@ -218,3 +222,10 @@ module _ (n : Namespace) (mount : Mount) (s : Stands Nothing n) (may : MayMount 
   one-live_files row life h =
       let before = s.live_files row life h in
       subst (λ found. IsSomeAnd found (λ m. fits_mount n life m ≡ true)) (sym (still-found life.mount (mount_numbered n life.mount) refl (λ m. fits_mount n life m ≡ true) before)) before
+
+  -- each mount's source is the name of a volume, the new one's too
+  pub named-sources : SourcesNamed (with_one n mount)
+  named-sources place d l k = elim (placed (all_mounts n) mount place d l).is [
+    | inl x ↦ subst (λ m. volume_named n m.source < length n.volumes) (sym x.1) (s.boxes.sources place d x.0 (sym (ap is_cell_mount x.1) ∙ k))
+    | inr x ↦ subst (λ m. volume_named n m.source < length n.volumes) (sym x.1) (may.sourced (sym (ap is_cell_mount x.1) ∙ k))
+  ]

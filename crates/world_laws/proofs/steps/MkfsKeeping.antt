@@ -7,7 +7,7 @@ use Rattle.std.specs.Cmp.Lexicographic.{bytes_decides}
 use Rattle.std.specs.List.{list_any}
 use Rattle.std.specs.Prelude.{count_by}
 use Rattle.vfs_base.specs.declared.kinds.FsType.TheVariants as fs
-use Rattle.vfs_model.specs.Boxes.{cell_files, fits_kind, is_backed_by, is_kept_dir, is_kept_on, lies_on_cell, one_if}
+use Rattle.vfs_model.specs.Boxes.{cell_files, fits_kind, is_backed_by, is_cell_mount, is_kept_dir, is_kept_on, lies_on_cell, one_if}
 use Rattle.vfs_model.specs.Consistency.{IsClosedTree, LivesFit, fits_mount, mount_numbered, same_kind}
 use Rattle.vfs_model.specs.Content.{is_mounted, same_type}
 use Rattle.vfs_model.specs.FileLife.{no_volume, volume_at, volume_named}
@@ -24,7 +24,7 @@ use Rattle.world_laws.proofs.lists.Counting.{none-count}
 use Rattle.world_laws.proofs.lists.Lists.{any-place, place-any, same-number, same-or-other, set-here, set-there, true-or-false}
 use Rattle.world_laws.proofs.lists.Passing.{and-both, and-first, and-second}
 use Rattle.world_laws.proofs.parts.Standing.{Nothing, Stands}
-use Rattle.world_laws.proofs.parts.Taking.{set-at}
+use Rattle.world_laws.proofs.parts.Taking.{set-at, sources-beside}
 use Rattle.world_laws.proofs.steps.UmountKeeping.{found-at}
 use Rattle.world_laws.proofs.steps.Vacating.{cell-kind-is, on-cell}
 
@@ -36,18 +36,21 @@ module _ (n : Namespace) (name : List ℕ) (s : Stands Nothing n) (off : is_moun
   formatted = format_volume n place
 
   -- no live file lies on the volume
-  no-life : place < length n.volumes → (cell : ℕ) (row : ℕ) → is_backed_by (lies_on_cell place cell) (life_at n row) ≡ true → ⊥
-  no-life l cell row h = by (life_at n row) refl h
+  pub no-life : (cell : ℕ) (row : ℕ) → is_backed_by (lies_on_cell (volume_named n name) cell) (life_at n row) ≡ true → ⊥
+  no-life cell row h = by (life_at n row) refl h
     where
       mounted : (life : LiveFile) (mount : Mount) → mount_numbered n life.mount ≡ Some mount → life_at n row ≡ Some life → life.backing ≡ backing.Cell place cell → fits_mount n life mount ≡ true → ⊥
       mounted life mount e there on fits =
           let fit : (same_kind life.kind (kind_of mount.fs) && (place == volume_named n mount.source)) ≡ true = subst (λ b. fits_mount n (record life { backing = b }) mount ≡ true) on fits in
           let same : place ≡ volume_named n mount.source = same-number place (volume_named n mount.source) (and-second (same_kind life.kind (kind_of mount.fs)) _ fit) in
           let cell_mount : mount.fs ≡ fs.Cell = cell-kind-is life place cell mount.fs on (sym (ap fits_kind there) ∙ s.boxes.kinds row) (and-first (same_kind life.kind (kind_of mount.fs)) _ fit) in
-          let own : (volume_at n place).name ≡ name = (bytes_decides (volume_at n place).name name).0 (passes_at_first (λ v. same_bytes v.name name) n.volumes no_volume l) in
-          let other : (volume_at n place).name ≡ mount.source =
-          ap (λ k. (volume_at n k).name) same ∙ (bytes_decides (volume_at n (volume_named n mount.source)).name mount.source).0 (passes_at_first (λ v. same_bytes v.name mount.source) n.volumes no_volume (subst (λ k. k < length n.volumes) same l)) in
           let at = found-at (λ m. m.number == life.mount) (all_mounts n) mount e in
+          let within : volume_named n mount.source < length n.volumes =
+          subst (λ m. volume_named n m.source < length n.volumes) at.is (s.boxes.sources at.place mount at.within (ap is_cell_mount at.is ∙ ap (λ t. same_type t fs.Cell) cell_mount)) in
+          let own : (volume_at n place).name ≡ name =
+          (bytes_decides (volume_at n place).name name).0 (passes_at_first (λ v. same_bytes v.name name) n.volumes no_volume (subst (λ k. k < length n.volumes) (sym same) within)) in
+          let other : (volume_at n place).name ≡ mount.source =
+          ap (λ k. (volume_at n k).name) same ∙ (bytes_decides (volume_at n (volume_named n mount.source)).name mount.source).0 (passes_at_first (λ v. same_bytes v.name mount.source) n.volumes no_volume within) in
           let yes : is_mounted n fs.Cell name ≡ true =
           place-any (λ m. same_type m.fs fs.Cell && same_bytes m.source name) (all_mounts n) at.place mount at.within
           (ap (λ m. same_type m.fs fs.Cell && same_bytes m.source name) at.is
@@ -62,12 +65,12 @@ module _ (n : Namespace) (name : List ℕ) (s : Stands Nothing n) (off : is_moun
       by None e k = absurd (cc)
       by (Some life) e k = found life (mount_numbered n life.mount) refl e (on-cell place cell life.backing k) (s.live_files row life e)
 
-  none-live_files : place < length n.volumes → (cell : ℕ) → count_by (is_backed_by (lies_on_cell place cell)) n.live_files ≡ 0
-  none-live_files l cell = none-count (is_backed_by (lies_on_cell place cell)) n.live_files (elim (true-or-false (list_any (is_backed_by (lies_on_cell place cell)) n.live_files)) [
+  none-live_files : (cell : ℕ) → count_by (is_backed_by (lies_on_cell place cell)) n.live_files ≡ 0
+  none-live_files cell = none-count (is_backed_by (lies_on_cell place cell)) n.live_files (elim (true-or-false (list_any (is_backed_by (lies_on_cell place cell)) n.live_files)) [
     | inr h ↦ h
     | inl h ↦
         let at = any-place (is_backed_by (lies_on_cell place cell)) n.live_files None h in
-        absurd (no-life l cell (at.place + 1) (ap (λ k. is_backed_by (lies_on_cell place cell) (slice_index_or n.live_files k None)) (omega arith) ∙ at.holds))
+        absurd (no-life cell (at.place + 1) (ap (λ k. is_backed_by (lies_on_cell place cell) (slice_index_or n.live_files k None)) (omega arith) ∙ at.holds))
   ])
 
   abbrev blank_spare : List Bool
@@ -138,7 +141,7 @@ module _ (n : Namespace) (name : List ℕ) (s : Stands Nothing n) (off : is_moun
             let spare : one_if (slice_index_or (volume_at (format_volume n (volume_named n name)) volume).spare cell false) ≡ 1 =
             ap (λ x. one_if (slice_index_or x.spare cell false)) is ∙ ap one_if (get_or-replicate (length (volume_at n (volume_named n name)).pages) cell true false (subst (λ x. cell < length (volume_at n x).pages) e inside)) in
             let live_files = ap (λ x. count_by (is_backed_by (lies_on_cell x cell)) n.live_files) e in
-            let none = none-live_files own cell in
+            let none = none-live_files cell in
             omega (arith, kept, spare, live_files, none)
       ]
 
@@ -159,6 +162,7 @@ module _ (n : Namespace) (name : List ℕ) (s : Stands Nothing n) (off : is_moun
           | inr e ↦ subst (IsClosedTree is_kept_dir) (sym e) (s.boxes.kept u)
         ];
         sources_differ = s.boxes.sources_differ;
+        sources = sources-beside n (format_volume n (volume_named n name)) refl format-named (length-set n.volumes (volume_named n name) _) s.boxes.sources;
         named = λ u. elim (format-kept u) [
           | inl e ↦ inl e
           | inr e ↦ elim (s.boxes.named u) [

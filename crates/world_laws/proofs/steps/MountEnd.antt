@@ -21,12 +21,12 @@ use Rattle.vfs_model.proofs.NodeLaws.{other_mount}
 use Rattle.vfs_model.specs.Chain.{refuse◌when◌, refuse_by}
 use Rattle.vfs_model.specs.Consistency.{IsClosedTree, covered_mount}
 use Rattle.vfs_model.specs.Content.{Content, content_of, file_count, fs_type_of, same_type}
-use Rattle.vfs_model.specs.FileLife.{volume_named}
+use Rattle.vfs_model.specs.FileLife.{no_volume, volume_named}
 use Rattle.vfs_model.specs.Homes.{cell_capacity, change_row}
 use Rattle.vfs_model.specs.Lookup.{asked_path, covering_mount, nearest, node_in, has_folder_within, has_mount_below, has_nodes, is_dir_node, is_file, is_point, is_prefix, is_there, node_at, walk_refusal, with_tree}
 use Rattle.vfs_model.specs.Laws.{with_mount}
 use Rattle.vfs_model.specs.MountStep.{add_mount, is_taken, is_without_source, least_free_mount, mount_at, mount_refusals, mount_step, without_kept}
-use Rattle.vfs_model.specs.Namespace.{all_mounts, folder_of, same_path, tree_of}
+use Rattle.vfs_model.specs.Namespace.{all_mounts, folder_of, same_bytes, same_path, tree_of}
 use Rattle.vfs_model.specs.declared.namespace.Mount.{Mount}
 use Rattle.vfs_model.specs.OpenStep.{kind_of}
 use Rattle.vfs_model.specs.declared.namespace.Namespace.{Namespace}
@@ -40,8 +40,8 @@ use Rattle.world_laws.proofs.steps.Filling.{InTree, content_shape, node_shape, s
 use Rattle.world_laws.proofs.parts.FreeRows.{free_count}
 use Rattle.world_laws.proofs.parts.Growing.{MayStand, tree-other, tree-own, tree-stands}
 use Rattle.world_laws.proofs.steps.Keeping.{Keeps, Kept, bind-kept, then-kept, there-folder, wanted-kept}
-use Rattle.world_laws.proofs.lists.Lists.{below-or-past, nor-first, nor-second, or-first, or-second, number-itself, same-number, same-some, true-or-false}
-use Rattle.world_laws.proofs.steps.MountKeeping.{Begun, begun, found-any}
+use Rattle.world_laws.proofs.lists.Lists.{below-or-past, first-within, found-any, nor-first, nor-second, or-first, or-second, number-itself, same-number, same-some, true-or-false}
+use Rattle.world_laws.proofs.steps.MountKeeping.{Begun, begun}
 use Rattle.world_laws.proofs.steps.MoveKeeping.{plain-folder, within-or-not}
 use Rattle.world_laws.proofs.steps.NameKeeping.{not-root}
 use Rattle.world_laws.proofs.lists.Passing.{refuse-passed, then-first, then-rest}
@@ -295,7 +295,6 @@ free-number n l = elim (below-or-past (least_free_mount n) 16) [
 -- what a mount needs to begin, where none of its refusals holds
 pub record MayBegin (n : Namespace) (mount : Mount) : Type 0 where
   pub may : MayMount n mount
-  pub sourced : is_without_source n mount.fs mount.source ≡ false
   pub taken : is_taken n mount.fs mount.source ≡ false
   pub room : file_count (content_of n mount.fs mount.source) ≤ free_count n
   pub away : (k : ℕ) → is_prefix mount.point (folder_of n k) ≡ false
@@ -303,6 +302,13 @@ pub record MayBegin (n : Namespace) (mount : Mount) : Type 0 where
 -- the mount that a step adds
 abbrev pub new_mount : Namespace → Path → FsType → List ℕ → Mount
 new_mount n path asked source = record { number = least_free_mount n; point = path; fs = asked; source = source }
+
+-- a source that a mount of a volume has is the name of one
+named-volume : (n : Namespace) (asked : FsType) (source : List ℕ) → is_without_source n asked source ≡ false → same_type asked fs.Cell ≡ true → volume_named n source < length n.volumes
+named-volume n fs.Tmp source h cell = absurd (cc)
+named-volume n fs.Rom source h cell = absurd (cc)
+named-volume n fs.Dev source h cell = absurd (cc)
+named-volume n fs.Cell source h cell = first-within (λ volume. same_bytes volume.name source) n.volumes no_volume (not-false _ h)
 
 pub may-begin : (n : Namespace) (path : Path) (asked : FsType) (source : List ℕ) → Stands Nothing n → mount_refusals n path asked source ≡ Ok tt →
     MayBegin n (new_mount n path asked source)
@@ -338,8 +344,8 @@ may-begin n path asked source s h =
         own = number.1;
         small = number.0;
         room = omega (arith, fewer);
+        sourced = named-volume n asked source (nor-first (is_without_source n asked source) _ (refuse-passed errno.ENXIO without (then-first (refuse errno.ENXIO when without) _ tt r6)));
       };
-      sourced = nor-first (is_without_source n asked source) _ (refuse-passed errno.ENXIO without (then-first (refuse errno.ENXIO when without) _ tt r6));
       taken = taken;
       room = ltb-false (free_count n) (file_count (content_of n asked source)) room;
       away = λ j. within-or-not n path j (not-root n path s.working_directories unpointed) away;

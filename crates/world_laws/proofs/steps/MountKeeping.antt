@@ -34,16 +34,16 @@ use Rattle.vfs_model.specs.declared.namespace.Namespace.{Namespace}
 use Rattle.vfs_model.specs.declared.namespace.Origin.{Origin}
 use Rattle.vfs_model.specs.declared.namespace.RomNode.{RomNode}
 use Rattle.vfs_model.specs.declared.namespace.RomNode.TheVariants as rom
-use Rattle.world_laws.proofs.steps.Adding.{MayMount, placed, one-live_files, one-rest, with_one}
+use Rattle.world_laws.proofs.steps.Adding.{MayMount, named-sources, placed, one-live_files, one-rest, with_one}
 use Rattle.world_laws.proofs.parts.Binding.{Rest, rest-beside}
 use Rattle.world_laws.proofs.parts.Contents.{AllDevices, IsDevice, IsTree, device-content, empty-tree, kept-tree, rom-tree}
 use Rattle.world_laws.proofs.steps.Filling.{AllFit, Fill, Fits, InTree, begins_on, content_shape, pending}
 use Rattle.world_laws.proofs.lists.Filters.{PassingDiffer}
 use Rattle.world_laws.proofs.parts.FreeRows.{free_count, rows-length}
-use Rattle.world_laws.proofs.lists.Lists.{AnyPlace, any-later, below-or-past, no-place, nor-first, nor-second, number-itself, or-either, or-first, or-second, same-or-other, same-some, set-here, set-there, equal-is, other-number, true-or-false}
+use Rattle.world_laws.proofs.lists.Lists.{AnyPlace, any-later, below-or-past, found-any, no-place, nor-first, nor-second, number-itself, or-either, same-or-other, same-some, set-here, set-there, equal-is, other-number, true-or-false}
 use Rattle.world_laws.proofs.lists.Passing.{and-both, and-first, and-second}
 use Rattle.world_laws.proofs.parts.Standing.{IsUsed, Nothing, Stands}
-use Rattle.world_laws.proofs.parts.Taking.{BoxesBut, boxes-but, set-at}
+use Rattle.world_laws.proofs.parts.Taking.{BoxesBut, boxes-but, set-at, sources-beside}
 
 -- one of a list passes where the count isn't 0
 counted-cons : {X : Type 0} (p : X → Bool) (x : X) (xs : List X) (d : X) (b : Bool) → p x ≡ b → 0 < one_if b + count_by p xs → (0 < count_by p xs → AnyPlace p xs d) → AnyPlace p (x ∷ xs) d
@@ -93,14 +93,6 @@ device-life device life h fits = by life.backing refl
     by backing.Memory e = let none = sym (ap (lies_on_device device) e) ∙ h in absurd (cc)
     by (backing.Cell volume cell) e = let none = sym (ap (lies_on_device device) e) ∙ h in absurd (cc)
     by (backing.Device other) e = chr life.kind (subst (λ x. fits_kind (Some (record life { backing = x })) ≡ true) e fits)
-
-pub found-any : (p q : Mount → Bool) (mounts : List Mount) (x : Mount) → find p mounts ≡ Some x → q x ≡ true → list_any q mounts ≡ true
-found-any p q [] x e h = absurd (cc)
-found-any p q (m ∷ mounts) x e h = at (p m) e (λ later. found-any p q mounts x later h)
-  where
-    at : (b : Bool) → (if b then Some m else find p mounts) ≡ Some x → (find p mounts ≡ Some x → list_any q mounts ≡ true) → (q m || list_any q mounts) ≡ true
-    at true k later = or-first (q m) (list_any q mounts) (ap q (same-some m x k) ∙ h)
-    at false k later = or-second (q m) (list_any q mounts) (later k)
 
 -- without a devfs mount each device is at home
 all-home : (n : Namespace) (source : List ℕ) → Stands Nothing n → is_taken n fs.Dev source ≡ false → (device : ℕ) → device < length n.devices → (slice_index_or n.devices device no_device).is_out ≡ false
@@ -267,6 +259,7 @@ module _ (n : Namespace) (mount : Mount) (s : Stands Nothing n) (may : MayMount 
         ∙ sym (mounted-then (with_one n mount) (volume_at n u).name refl) ∙ k);
     kept = s.boxes.kept;
     sources_differ = apart-sources;
+    sources = named-sources n mount s may;
     named = s.boxes.named;
   }
     where
@@ -303,6 +296,7 @@ module _ (n : Namespace) (mount : Mount) (s : Stands Nothing n) (may : MayMount 
       | inr e ↦ subst (IsClosedTree is_kept_dir) (sym (kept-other u e)) (s.boxes.kept u)
     ];
     sources_differ = apart-sources;
+    sources = sources-beside (with_one n mount) (with_kept (with_one n mount) (volume_named n mount.source) []) refl kept-named (length-set n.volumes (volume_named n mount.source) _) (named-sources n mount s may);
     named = λ u. elim (same-or-other u (volume_named n mount.source)) [
       | inl e ↦ inl (kept-own u e)
       | inr e ↦ elim (s.boxes.named u) [

@@ -125,7 +125,7 @@ module _ (m : Namespace) (s : Stands Nothing (lone m)) (rest : AtRest (lone m)) 
         references = s.sizes.references;
       };
     };
-    boxes = record { spares = s.boxes.spares; kinds = s.boxes.kinds; mounted = s.boxes.mounted; kept = s.boxes.kept; sources_differ = (boxes-but (lone m) s.boxes).sources_differ; named = s.boxes.named };
+    boxes = record { spares = s.boxes.spares; kinds = s.boxes.kinds; mounted = s.boxes.mounted; kept = s.boxes.kept; sources_differ = (boxes-but (lone m) s.boxes).sources_differ; sources = s.boxes.sources; named = s.boxes.named };
     devices = s.boxes.devices;
     cells = λ volume cell v c. let placed = s.boxes.cells volume cell v c in let none = no-cell-rows volume cell in omega (arith, placed, none);
     lone = λ volume cell v c. let placed = s.boxes.cells volume cell v c in omega (arith, placed);

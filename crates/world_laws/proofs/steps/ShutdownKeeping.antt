@@ -203,6 +203,7 @@ stopped-stands n s = record {
     mounted = s.boxes.mounted;
     kept = s.boxes.kept;
     sources_differ = s.boxes.sources_differ;
+    sources = s.boxes.sources;
     named = s.boxes.named;
   };
   live_files = s.live_files;

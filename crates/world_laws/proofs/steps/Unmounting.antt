@@ -31,7 +31,7 @@ use Rattle.vfs_model.specs.declared.namespace.Namespace.{Namespace}
 use Rattle.world_laws.proofs.parts.Binding.{Rest}
 use Rattle.world_laws.proofs.parts.Covering.{IsMount, one-number}
 use Rattle.world_laws.proofs.parts.Emptying.{InRows, RowsLeft, of-mount}
-use Rattle.world_laws.proofs.lists.Filters.{PassingDiffer, filter-holds, kept-apart, kept_place, kept-rising, kept-within}
+use Rattle.world_laws.proofs.lists.Filters.{PassingDiffer, filter-holds, kept-apart, kept_place, kept-rising, kept-within, none-filtered}
 use Rattle.world_laws.proofs.lists.Leaving.{in-left, rows-in, rows-left}
 use Rattle.world_laws.proofs.lists.Lists.{AnyPlace, any-place, below-or-past, no-place, number-itself, or-either, or-first, or-second, other-number, same-number, same-or-other, same-some, set-here, set-there, some-within, true-or-false}
 use Rattle.world_laws.proofs.lists.Passing.{and-first, and-second}
@@ -350,7 +350,7 @@ module _ (n : Namespace) (mount : Mount) (s : Stands Nothing n) (may : MayLeave 
   volume = volume_named n mount.source
 
   -- a mount that stays has another source than this one, where both are of a volume
-  mounted-left : (f : FsType) → mount.fs ≡ fs.Cell → is_mounted (left_by n mount f) fs.Cell mount.source ≡ false
+  pub mounted-left : (f : FsType) → mount.fs ≡ fs.Cell → is_mounted (left_by n mount f) fs.Cell mount.source ≡ false
   mounted-left f cell = elim (true-or-false (is_mounted (left_by n mount f) fs.Cell mount.source)) [
     | inr h ↦ h
     | inl h ↦ absurd (somewhere (any-place (λ m. same_type m.fs fs.Cell && same_bytes m.source mount.source) (all_mounts (left_by n mount f)) mount h))
@@ -373,27 +373,13 @@ module _ (n : Namespace) (mount : Mount) (s : Stands Nothing n) (may : MayLeave 
 
   -- which mounts have a volume then
   mounted-less : (f : FsType) (name : List ℕ) → is_mounted (left_by n mount f) fs.Cell name ≡ true → is_mounted n fs.Cell name ≡ true
-  mounted-less f name h = fewer (all_mounts n) (sym (ap (list_any (λ m. same_type m.fs fs.Cell && same_bytes m.source name)) (all-left f)) ∙ h)
-    where
-      fewer : (mounts : List Mount) → list_any (λ m. same_type m.fs fs.Cell && same_bytes m.source name) (filter (stays mount.number) mounts) ≡ true →
-          list_any (λ m. same_type m.fs fs.Cell && same_bytes m.source name) mounts ≡ true
-      fewer [] k = k
-      fewer (m ∷ mounts) k = by (stays mount.number m) refl (fewer mounts)
-        where
-          by : (b : Bool) → stays mount.number m ≡ b → (list_any (λ m. same_type m.fs fs.Cell && same_bytes m.source name) (filter (stays mount.number) mounts) ≡ true →
-              list_any (λ m. same_type m.fs fs.Cell && same_bytes m.source name) mounts ≡ true) →
-              (same_type m.fs fs.Cell && same_bytes m.source name || list_any (λ m. same_type m.fs fs.Cell && same_bytes m.source name) mounts) ≡ true
-          by true e later =
-              either (or-either (same_type m.fs fs.Cell && same_bytes m.source name) (list_any (λ m. same_type m.fs fs.Cell && same_bytes m.source name) (filter (stays mount.number) mounts))
-              (sym (ap (λ b. list_any (λ m. same_type m.fs fs.Cell && same_bytes m.source name) (if b then m ∷ filter (stays mount.number) mounts else filter (stays mount.number) mounts)) e) ∙ k))
-            where
-              either : ((same_type m.fs fs.Cell && same_bytes m.source name) ≡ true) ⊎ (list_any (λ m. same_type m.fs fs.Cell && same_bytes m.source name) (filter (stays mount.number) mounts) ≡ true) →
-                  (same_type m.fs fs.Cell && same_bytes m.source name || list_any (λ m. same_type m.fs fs.Cell && same_bytes m.source name) mounts) ≡ true
-              either (inl x) = or-first (same_type m.fs fs.Cell && same_bytes m.source name) _ x
-              either (inr x) = or-second (same_type m.fs fs.Cell && same_bytes m.source name) _ (later x)
-          by false e later =
-              or-second (same_type m.fs fs.Cell && same_bytes m.source name) _
-              (later (sym (ap (λ b. list_any (λ m. same_type m.fs fs.Cell && same_bytes m.source name) (if b then m ∷ filter (stays mount.number) mounts else filter (stays mount.number) mounts)) e) ∙ k))
+  mounted-less f name h = elim (true-or-false (is_mounted n fs.Cell name)) [
+    | inl is ↦ is
+    | inr off ↦
+        let test : Mount → Bool = λ m. same_type m.fs fs.Cell && same_bytes m.source name in
+        let none = ap (list_any test) (all-left f) ∙ none-filtered test (stays mount.number) (all_mounts n) off in
+        absurd (cc)
+  ]
 
   sources-left : (f : FsType) → PassingDiffer is_cell_mount (λ m. m.source) (all_mounts (left_by n mount f))
   sources-left f place other d l m k j e =
@@ -401,6 +387,13 @@ module _ (n : Namespace) (mount : Mount) (s : Stands Nothing n) (may : MayLeave 
       let b = at-from f other d m in
       kept-apart (stays mount.number) (all_mounts n) place other (subst (λ ms. place < length ms) (all-left f) l) (subst (λ ms. other < length ms) (all-left f) m)
       ((boxes-but n s.boxes).sources_differ _ _ d a.0 b.0 (sym (ap (λ x. same_type x.fs fs.Cell) a.1) ∙ k) (sym (ap (λ x. same_type x.fs fs.Cell) b.1) ∙ j) (sym (ap (λ x. x.source) a.1) ∙ e ∙ ap (λ x. x.source) b.1))
+
+  -- each mount that stays has a volume's name as before
+  names-left : (f : FsType) (place : ℕ) (d : Mount) → place < length (all_mounts (left_by n mount f)) → is_cell_mount (slice_index_or (all_mounts (left_by n mount f)) place d) ≡ true →
+      volume_named n (slice_index_or (all_mounts (left_by n mount f)) place d).source < length n.volumes
+  names-left f place d l k =
+      let a = at-from f place d l in
+      subst (λ m. volume_named n m.source < length n.volumes) (sym a.1) (s.boxes.sources _ d a.0 (sym (ap is_cell_mount a.1) ∙ k))
 
   pub other-left : (f : FsType) → (left_by n mount f).volumes ≡ n.volumes → BoxesBut (left_by n mount f)
   other-left f volumes = record {
@@ -411,6 +404,8 @@ module _ (n : Namespace) (mount : Mount) (s : Stands Nothing n) (may : MayLeave 
         ap (λ vs. (slice_index_or vs u no_volume).kept) volumes ∙ s.boxes.mounted u (mounted-less f (volume_at n u).name (sym (ap (is_mounted (left_by n mount f) fs.Cell) name) ∙ h));
     kept = subst (λ vs. (u : ℕ) → IsClosedTree is_kept_dir (slice_index_or vs u no_volume).kept) (sym volumes) s.boxes.kept;
     sources_differ = sources-left f;
+    sources = λ place d l k.
+        subst (λ vs. position_or_len (λ v. same_bytes v.name (slice_index_or (all_mounts (left_by n mount f)) place d).source) vs < length vs) (sym volumes) (names-left f place d l k);
     named = subst (λ vs. (u : ℕ) → ((slice_index_or vs u no_volume).kept ≡ []) ⊎ (position_or_len (λ v. same_bytes v.name (slice_index_or vs u no_volume).name) vs ≡ u)) (sym volumes) s.boxes.named;
   }
 
@@ -515,6 +510,11 @@ module _ (n : Namespace) (mount : Mount) (s : Stands Nothing n) (may : MayLeave 
         | inr e ↦ subst (IsClosedTree is_kept_dir) (sym (keep-other u e)) (s.boxes.kept u)
       ];
       sources_differ = sources-left fs.Cell;
+      sources = λ place d m k.
+          let old = names-left fs.Cell place d m k in
+          let name = keep-named (slice_index_or (all_mounts (left_by n mount fs.Cell)) place d).source in
+          let many = length-set n.volumes (volume_named n mount.source) (record (volume_at n (volume_named n mount.source)) { kept = map (λ entry. (entry.0, kept_node n entry.1)) (tree_of n mount.number) }) in
+          omega (arith, old, name, many);
       named = λ u. elim (same-or-other u (volume_named n mount.source)) [
         | inl e ↦ inr (keep-named _ ∙ ap (volume_named n) (keep-name u ∙ ap (λ k. (volume_at n k).name) e ∙ own-name l) ∙ sym e)
         | inr e ↦ elim (s.boxes.named u) [

@@ -1,10 +1,8 @@
 -- A volume that is unmounted keeps the folders and the files of its mount.
 use Rattle.std.proofs.Common.{◌≡◌, ℕ, ◌-◌, ◌<◌, Bool, true, false, Option, Some, None, option_map, IsSomeAnd, List, [], ◌∷◌, ◌++◌, length, drop, fold, slice_index_or, slice_set, Result, Ok, inl, inr, refl, sym, ap, subst, ◌∙◌, arith}
-use Rattle.std.proofs.lemmas.List.{length-set}
-use Rattle.std.proofs.lemmas.List.Sums.{fails_before_first}
 use Rattle.std.specs.Cmp.Lexicographic.{bytes_decides, pointwise_decides}
 use Rattle.std.specs.FinMap.Entries.{find as value_at}
-use Rattle.std.specs.List.{list_any, position_or_len}
+use Rattle.std.specs.List.{position_or_len}
 use Rattle.vfs_base.specs.Path.{Path, path_cmp}
 use Rattle.vfs_base.specs.declared.entry.Mark.TheVariants as mark
 use Rattle.vfs_base.specs.declared.entry.Who.TheVariants as who
@@ -21,9 +19,10 @@ use Rattle.vfs_base.specs.declared.step.Step.TheVariants as step
 use Rattle.vfs_model.proofs.MountLaws.{prefixes-nest}
 use Rattle.vfs_model.proofs.MovedLaws.{prefix-append}
 use Rattle.vfs_model.proofs.Rests.{changed-namespace}
-use Rattle.vfs_model.specs.Boxes.{IsConsistent, fits_kind}
+use Rattle.vfs_model.specs.Boxes.{IsConsistent, fits_kind, is_cell_mount}
 use Rattle.vfs_model.specs.Chain.{◌>>=◌, ◌>>◌, refuse◌when◌, wanted}
 use Rattle.vfs_model.specs.Consistency.{same_kind}
+use Rattle.vfs_model.specs.Content.{same_type}
 use Rattle.vfs_model.specs.FileLife.{Rows, after_end, backing_of, end_of_unmounted, free_row, no_volume, volume_at, volume_named}
 use Rattle.vfs_model.specs.Homes.{cell_bytes}
 use Rattle.vfs_model.specs.Lookup.{asked_path, covering_mount, has_mount_below, is_below, node_at, node_in}
@@ -40,7 +39,7 @@ use Rattle.vfs_model.specs.declared.namespace.LiveFile.{LiveFile}
 use Rattle.vfs_model.specs.declared.namespace.Mount.{Mount}
 use Rattle.vfs_model.specs.declared.namespace.Namespace.{Namespace}
 use Rattle.vfs_model.specs.declared.world.WorldState.{WorldState}
-use Rattle.world_laws.proofs.lists.Lists.{any-place, below-or-past, no-place}
+use Rattle.world_laws.proofs.lists.Lists.{below-or-past, no-place}
 use Rattle.world_laws.proofs.lists.Passing.{and-first}
 use Rattle.world_laws.proofs.parts.Clear.{below-prefix}
 use Rattle.world_laws.proofs.parts.Covering.{covering-is, covers-longest, covers-prefix, drop-front, one-point, same-prefix}
@@ -80,18 +79,6 @@ freed-volumes [] rows = refl
 freed-volumes (row ∷ left) rows =
     freed-volumes left (free_row end_of_unmounted rows row)
     ∙ ended-volumes (record rows.next { live_files = slice_set rows.next.live_files (row - 1) None }) (backing_of (life_at rows.next row))
-
--- the first that passes is one of the list, where one passes
-pub first-within : {X : Type 0} (p : X → Bool) (xs : List X) (d : X) → list_any p xs ≡ true → position_or_len p xs < length xs
-first-within p xs d h = elim (below-or-past (position_or_len p xs) (length xs)) [
-  | inl l ↦ l
-  | inr past ↦
-      let at = any-place p xs d h in
-      let l = at.within in
-      let yes = at.holds in
-      let no = fails_before_first p xs at.place d (omega (arith, l, past)) in
-      absurd (cc)
-]
 
 module _ (w : WorldState) (mount : Mount) (c : IsConsistent w) (may : MayLeave w.namespace mount) where
   s : Stands Nothing w.namespace
@@ -134,18 +121,22 @@ module _ (w : WorldState) (mount : Mount) (c : IsConsistent w) (may : MayLeave w
     volumes-are : (unmounted_world w mount).namespace.volumes ≡ (left_by w.namespace mount fs.Cell).volumes
     volumes-are = volumes-left ∙ ap (λ f. (left_by w.namespace mount f).volumes) of_cells
 
-    pub same-volume : volume_named (unmounted_world w mount).namespace mount.source ≡ volume_named w.namespace mount.source
+    -- its source is the name of one
+    within : volume_named w.namespace mount.source < length w.namespace.volumes
+    within =
+        let is = may.is in
+        subst (λ m. volume_named w.namespace m.source < length w.namespace.volumes) is.is
+        (c.boxes_placed.sources is.place mount is.within (ap is_cell_mount is.is ∙ ap (λ t. same_type t fs.Cell) of_cells))
+
+    same-volume : volume_named (unmounted_world w mount).namespace mount.source ≡ volume_named w.namespace mount.source
     same-volume = ap (position_or_len (λ volume. same_bytes volume.name mount.source)) volumes-are ∙ keep-named w.namespace mount s may mount.source
 
-    pub as-many : length (unmounted_world w mount).namespace.volumes ≡ length w.namespace.volumes
-    as-many = ap (λ volumes. length volumes) volumes-are ∙ length-set w.namespace.volumes (volume_named w.namespace mount.source) _
-
-    names-are : volume_named w.namespace mount.source < length w.namespace.volumes → (p : Path) →
+    names-are : (p : Path) →
         value_at path_cmp p (kept_names (unmounted_world w mount).namespace mount.source) ≡ option_map (kept_node w.namespace) (value_at path_cmp p (tree_of w.namespace mount.number))
-    names-are l p =
+    names-are p =
         ap (λ volume. value_at path_cmp p (volume_at (unmounted_world w mount).namespace volume).kept) same-volume
         ∙ ap (λ volumes. value_at path_cmp p (slice_index_or volumes (volume_named w.namespace mount.source) no_volume).kept) volumes-are
-        ∙ ap (value_at path_cmp p) (keep-own w.namespace mount s may l)
+        ∙ ap (value_at path_cmp p) (keep-own w.namespace mount s may within)
         ∙ name-at w.namespace mount s may p (tree_of w.namespace mount.number)
 
     -- a file of the mount lies on a cell of its volume
@@ -175,16 +166,15 @@ module _ (w : WorldState) (mount : Mount) (c : IsConsistent w) (may : MayLeave w
               row = node-row w.namespace mount s may p id shape h;
             }
 
-    pub keeps-node : volume_named w.namespace mount.source < length w.namespace.volumes → (p : Path) (found : Option NodeKind) →
-        value_at path_cmp p (tree_of w.namespace mount.number) ≡ found →
+    pub keeps-node : (p : Path) (found : Option NodeKind) → value_at path_cmp p (tree_of w.namespace mount.number) ≡ found →
         KeepsNode w found (unmounted_world w mount).homes (volume_named (unmounted_world w mount).namespace mount.source) (value_at path_cmp p (kept_names (unmounted_world w mount).namespace mount.source))
-    keeps-node l p None e = names-are l p ∙ ap (option_map (kept_node w.namespace)) e
-    keeps-node l p (Some node.Dir) e = names-are l p ∙ ap (option_map (kept_node w.namespace)) e
-    keeps-node l p (Some (node.File id shape)) e =
+    keeps-node p None e = names-are p ∙ ap (option_map (kept_node w.namespace)) e
+    keeps-node p (Some node.Dir) e = names-are p ∙ ap (option_map (kept_node w.namespace)) e
+    keeps-node p (Some (node.File id shape)) e =
         let on = on-cell p id shape e in (
           on.is,
           on.cell,
-          names-are l p ∙ ap (option_map (kept_node w.namespace)) e ∙ ap (λ b. Some (cell_of b)) on.backing,
+          names-are p ∙ ap (option_map (kept_node w.namespace)) e ∙ ap (λ b. Some (cell_of b)) on.backing,
           ap (λ volume. cell_bytes (unmounted_world w mount).homes volume on.cell) same-volume
               ∙ bytes-kept w mount c may id.row (volume_named w.namespace mount.source) on.cell on.row on.backing,
         )
