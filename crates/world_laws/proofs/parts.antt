@@ -8,6 +8,7 @@ pub mod Contents
 pub mod Covering
 pub mod Emptying
 pub mod FileKeeping
+pub mod FilesBehind
 pub mod FreeRows
 pub mod Freeing
 pub mod Growing
