@@ -17,6 +17,7 @@ pub mod Nodes
 pub mod Points
 pub mod Referring
 pub mod Removing
+pub mod RowsBehind
 pub mod Standing
 pub mod Taking
 pub mod TreeMoves
