@@ -5,6 +5,7 @@ pub mod FileKeepingSteps
 pub mod FillAll
 pub mod FillApart
 pub mod Filling
+pub mod GoingOnBehind
 pub mod Keeping
 pub mod KeptBytes
 pub mod MkfsKeeping

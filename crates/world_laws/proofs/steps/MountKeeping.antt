@@ -103,7 +103,7 @@ found-any p q (m ∷ mounts) x e h = at (p m) e (λ later. found-any p q mounts 
     at false k later = or-second (q m) (list_any q mounts) (later k)
 
 -- without a devfs mount each device is at home
-all-home : (n : Namespace) (source : List ℕ) → Stands Nothing n → is_taken n fs.Dev source ≡ false → (device : ℕ) → device < length n.devices → (slice_index_or n.devices device no_device).is_out ≡ false
+pub all-home : (n : Namespace) (source : List ℕ) → Stands Nothing n → is_taken n fs.Dev source ≡ false → (device : ℕ) → device < length n.devices → (slice_index_or n.devices device no_device).is_out ≡ false
 all-home n source s free device l = elim (true-or-false (slice_index_or n.devices device no_device).is_out) [
   | inr h ↦ h
   | inl h ↦
