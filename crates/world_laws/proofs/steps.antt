@@ -26,6 +26,7 @@ pub mod ScriptAsking
 pub mod ScriptKeeping
 pub mod ShutdownKeeping
 pub mod StepKeeping
+pub mod StepsBehind
 pub mod UmountKeeping
 pub mod Unmounting
 pub mod Vacating

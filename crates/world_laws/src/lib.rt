@@ -23,7 +23,11 @@
 // - Mkfs: MkfsKeeping; Shutdown: Resting, RootRemoval, ShutdownKeeping
 // - of one file: WorldKeeping; every step and every list of steps: WorldSteps; the start: Opening
 // - every schedule of a script: ScriptKeeping; what it asks: ScriptAsking
+//
+// A world behind what character devices had at entry: of files and rows in `parts`, FilesBehind and RowsBehind; of steps in
+// `steps`, GoingOnBehind, of the namespace, and StepsBehind.
 
+ghost use Rattle.world_laws.specs.Behind.{RunsGoOnBehind, StepsGoOnBehind};
 ghost use Rattle.world_laws.specs.Mounted.{MountedRomShowsItsFiles, MountedVolumeShowsItsFiles, RemountedVolumeShowsItsFiles, UnmountedVolumeKeepsItsFiles};
 ghost use Rattle.world_laws.specs.Keeping.{AskedMayBeTaken, FileStepsKeepConsistency, OpeningIsConsistent, RunsKeepConsistency, StepsKeepConsistency};
 ghost use Rattle.world_laws.specs.Scripts.{ScriptStepsMayBeAsked, ScriptsStayConsistent};
@@ -81,4 +85,14 @@ pub fn unmounted_volume_keeps_its_files()
 /// A volume that is unmounted and mounted again, at the same path or at another, shows the same folders and the same files, with the same bytes.
 pub fn remounted_volume_shows_its_files()
     ensures { RemountedVolumeShowsItsFiles }
+{}
+
+/// Every step goes on behind what character devices had at entry: it fits the same marks, answers the same, and leaves the world behind the same bytes.
+pub fn steps_go_on_behind()
+    ensures { StepsGoOnBehind }
+{}
+
+/// Steps that may be taken one after the other go on behind what character devices had at entry, with the same answers.
+pub fn runs_go_on_behind()
+    ensures { RunsGoOnBehind }
 {}

@@ -80,7 +80,7 @@ chr-is-dev fs.Cell e = absurd (cc)
 chr-is-dev fs.Dev e = refl
 
 -- a life that has a device is a character device's
-device-life : (device : ℕ) (life : LiveFile) → lies_on_device device life.backing ≡ true → fits_kind (Some life) ≡ true → life.kind ≡ kind.Chr
+pub device-life : (device : ℕ) (life : LiveFile) → lies_on_device device life.backing ≡ true → fits_kind (Some life) ≡ true → life.kind ≡ kind.Chr
 device-life device life h fits = by life.backing refl
   where
     chr : (k : Kind) → is_device_kind k ≡ true → k ≡ kind.Chr
