@@ -32,5 +32,6 @@ pub mod Unmounting
 pub mod Vacating
 pub mod VolumeMount
 pub mod VolumeUmount
+pub mod WorldBehind
 pub mod WorldKeeping
 pub mod WorldSteps

@@ -1,5 +1,8 @@
 -- A world in which character devices had output at entry: it goes on as the world that began without.
-use Rattle.std.specs.Prelude.{◌≡◌, ℕ, ◌<◌, true, false, List, [], ◌++◌, length, slice_index_or}
+use Rattle.std.specs.Prelude.{◌≡◌, ℕ, ◌<◌, Bool, true, false, List, [], ◌++◌, length, map, slice_index_or}
+use Rattle.std.specs.List.{enumerate_from}
+use Rattle.vfs_base.specs.declared.deck.Deck.{Deck}
+use Rattle.vfs_base.specs.declared.describe.Describe.{Describe}
 use Rattle.vfs_base.specs.declared.entry.Mark.{Mark}
 use Rattle.vfs_base.specs.declared.entry.Who.{Who}
 use Rattle.vfs_base.specs.declared.step.Step.{Step}
@@ -8,6 +11,7 @@ use Rattle.vfs_model.specs.Boxes.{IsConsistent}
 use Rattle.vfs_model.specs.FileLife.{backing_of, no_device}
 use Rattle.vfs_model.specs.Homes.{device_home, file_at, no_home}
 use Rattle.vfs_model.specs.Namespace.{life_at}
+use Rattle.vfs_model.specs.ScriptRun.{opening_state}
 use Rattle.vfs_model.specs.World.{fits_step, world_step}
 use Rattle.vfs_model.specs.declared.namespace.Backing.{Backing}
 use Rattle.vfs_model.specs.declared.namespace.Backing.TheVariants as backing
@@ -49,6 +53,41 @@ pub record IsBehind (before : List (List ℕ)) (w v : WorldState) : Type 0 where
       device_home v.homes device ≡ home_behind (output_before before device) (device_home w.homes device)
   -- a device that is out has nothing at home, as in w
   pub out : (device : ℕ) → (slice_index_or w.namespace.devices device no_device).is_out ≡ true → device_home v.homes device ≡ no_home
+
+-- a device's home, with the bytes in front where the device isn't out
+abbrev pub home_unless_out : Bool → List ℕ → DeviceHome → DeviceHome
+home_unless_out true front home = home
+home_unless_out false front home = home_behind front home
+
+-- the world behind these outputs of the devices
+abbrev pub behind : List (List ℕ) → WorldState → WorldState
+behind before w = record w {
+  files = map (λ row. file_behind (output_in_front before (backing_of (life_at w.namespace row.0))) row.1) (enumerate_from 1 w.files);
+  homes = record w.homes {
+    devices = map (λ device. home_unless_out (slice_index_or w.namespace.devices device.0 no_device).is_out (output_before before device.0) device.1)
+        (enumerate_from 0 w.homes.devices);
+  };
+}
+
+-- a world has one world behind these outputs, and that one is consistent too
+pub record HasOneBehind (before : List (List ℕ)) (w : WorldState) : Type 0 where
+  pub is : IsBehind before w (behind before w)
+  pub one : (v : WorldState) → IsBehind before w v → v ≡ behind before w
+  pub consistent : IsConsistent (behind before w)
+
+abbrev pub WorldsHaveOneBehind : Type 0
+WorldsHaveOneBehind = (before : List (List ℕ)) (w : WorldState) → IsConsistent w → HasOneBehind before w
+
+-- the world at the start of a script, where the devices have these outputs
+abbrev pub opening_with : List (List ℕ) → Deck → Describe → WorldState
+opening_with before deck describe =
+    let w = (opening_state deck describe).world in
+    record w { homes = record w.homes { devices = map (λ device. record device.1 { output = output_before before device.0 }) (enumerate_from 0 w.homes.devices) } }
+
+-- it is the world of the start behind them
+abbrev pub OpeningIsBehind : Type 0
+OpeningIsBehind = (before : List (List ℕ)) (deck : Deck) (describe : Describe) →
+    IsBehind before (opening_state deck describe).world (opening_with before deck describe)
 
 -- a step fits the same marks in both worlds, answers the same, and leaves them so
 pub record GoesOnBehind (before : List (List ℕ)) (w v : WorldState) (asker : Who) (asked : Step) (m : Mark) : Type 0 where

@@ -25,9 +25,9 @@
 // - every schedule of a script: ScriptKeeping; what it asks: ScriptAsking
 //
 // A world behind what character devices had at entry: of files and rows in `parts`, FilesBehind and RowsBehind; of steps in
-// `steps`, GoingOnBehind, of the namespace, and StepsBehind.
+// `steps`, GoingOnBehind, of the namespace, and StepsBehind; which world it is, and the start: WorldBehind.
 
-ghost use Rattle.world_laws.specs.Behind.{RunsGoOnBehind, StepsGoOnBehind};
+ghost use Rattle.world_laws.specs.Behind.{OpeningIsBehind, RunsGoOnBehind, StepsGoOnBehind, WorldsHaveOneBehind};
 ghost use Rattle.world_laws.specs.Mounted.{MountedRomShowsItsFiles, MountedVolumeShowsItsFiles, RemountedVolumeShowsItsFiles, UnmountedVolumeKeepsItsFiles};
 ghost use Rattle.world_laws.specs.Keeping.{AskedMayBeTaken, FileStepsKeepConsistency, OpeningIsConsistent, RunsKeepConsistency, StepsKeepConsistency};
 ghost use Rattle.world_laws.specs.Scripts.{ScriptStepsMayBeAsked, ScriptsStayConsistent};
@@ -95,4 +95,14 @@ pub fn steps_go_on_behind()
 /// Steps that may be taken one after the other go on behind what character devices had at entry, with the same answers.
 pub fn runs_go_on_behind()
     ensures { RunsGoOnBehind }
+{}
+
+/// Each consistent world has one world behind what character devices had at entry, and that one is consistent.
+pub fn worlds_have_one_behind()
+    ensures { WorldsHaveOneBehind }
+{}
+
+/// The world at the start in which character devices have output is the one that begins without, behind that output.
+pub fn opening_is_behind()
+    ensures { OpeningIsBehind }
 {}

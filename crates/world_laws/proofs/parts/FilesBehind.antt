@@ -1,5 +1,5 @@
 -- A step of one file tells nothing of a character device's output, and puts its bytes behind it.
-use Rattle.std.proofs.Common.{◌≡◌, ℕ, ◌==◌, Bool, true, false, List, ◌++◌, take, Result, Ok, Err, is_ok, if◌then◌else◌, refl, sym, ap, ◌∙◌, append_assoc}
+use Rattle.std.proofs.Common.{◌≡◌, ℕ, ◌==◌, Bool, true, false, List, ◌++◌, take, Result, Ok, Err, if◌then◌else◌, refl, ap, ◌∙◌, append_assoc}
 use Rattle.vfs_base.specs.declared.entry.Mark.{Mark}
 use Rattle.vfs_base.specs.declared.entry.Mark.TheVariants as mark
 use Rattle.vfs_base.specs.declared.errno.Errno.{Errno}
@@ -8,7 +8,7 @@ use Rattle.vfs_base.specs.declared.kinds.Kind.{Kind}
 use Rattle.vfs_base.specs.declared.reply.Reply.TheVariants as reply
 use Rattle.vfs_base.specs.declared.step.Step.{Step}
 use Rattle.vfs_base.specs.declared.step.Step.TheVariants as step
-use Rattle.vfs_model.specs.FileMoves.{clear_step, file_step, fits_file, move, move_bytes, move_device, stopped_step}
+use Rattle.vfs_model.specs.FileMoves.{clear_step, file_step, fits_file, move, move_bytes, move_device}
 use Rattle.vfs_model.specs.FileStep.{FileOutcome, file_refusals, moved_count, refused_file}
 use Rattle.vfs_model.specs.declared.world.FileState.{FileState}
 use Rattle.vfs_model.specs.declared.world.FileState.TheVariants as file
@@ -29,7 +29,7 @@ bytes-behind front generation kind capacity bytes (step.Append id piece) count =
 bytes-behind front generation kind capacity bytes (step.Trunc id len) count = refl
 bytes-behind front generation kind capacity bytes _ count = refl
 
-written-behind : (front : List ℕ) (generation : ℕ) (input output piece : List ℕ) (count : ℕ) → 
+written-behind : (front : List ℕ) (generation : ℕ) (input output piece : List ℕ) (count : ℕ) →
     file.Device generation input ((front ++ output) ++ take count piece) ≡ file.Device generation input (front ++ (output ++ take count piece))
 written-behind front generation input output piece count = ap (file.Device generation input) (append_assoc front output (take count piece))
 

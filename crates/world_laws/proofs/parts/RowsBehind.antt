@@ -1,10 +1,10 @@
 -- A world behind what its devices had at entry, on its way through a step: one row is bound or freed in both worlds.
-use Rattle.std.proofs.Common.{◌≡◌, ℕ, ◌-◌, ◌<◌, Bool, true, false, Option, Some, None, List, [], length, slice_index_or, slice_set, ◌⊎◌, inl, inr, refl, sym, ap, subst, ◌∙◌, arith}
+use Rattle.std.proofs.Common.{◌≡◌, ℕ, ◌-◌, ◌<◌, Bool, true, false, Option, Some, None, List, [], length, slice_index_or, slice_set, inl, inr, refl, sym, ap, subst, ◌∙◌, arith}
 use Rattle.std.proofs.lemmas.List.{length-set, set_past}
 use Rattle.vfs_base.specs.declared.ids.FileId.{FileId}
 use Rattle.vfs_base.specs.declared.kinds.Kind.TheVariants as kind
-use Rattle.vfs_model.specs.FileLife.{after_end, after_taking, backing_of, no_device}
-use Rattle.vfs_model.specs.Homes.{bound_file, bytes_of, cell_bytes, cell_capacity, change_row, device_home, file_at, home_of, homes_after_bind, homes_after_end, no_home, rom_bytes, with_cell_bytes, with_file}
+use Rattle.vfs_model.specs.FileLife.{backing_of, no_device}
+use Rattle.vfs_model.specs.Homes.{bound_file, bytes_of, cell_bytes, cell_capacity, change_row, device_home, file_at, home_of, homes_after_bind, no_home, rom_bytes, with_cell_bytes, with_file}
 use Rattle.vfs_model.specs.MountStep.{origin_backing}
 use Rattle.vfs_model.specs.declared.namespace.Backing.{Backing}
 use Rattle.vfs_model.specs.declared.namespace.Backing.TheVariants as backing
@@ -12,7 +12,6 @@ use Rattle.vfs_model.specs.declared.namespace.DeviceState.{DeviceState}
 use Rattle.vfs_model.specs.declared.namespace.End.{End}
 use Rattle.vfs_model.specs.declared.namespace.End.TheVariants as end
 use Rattle.vfs_model.specs.declared.namespace.LiveFile.{LiveFile}
-use Rattle.vfs_model.specs.declared.namespace.Namespace.{Namespace}
 use Rattle.vfs_model.specs.declared.namespace.Origin.{Origin}
 use Rattle.vfs_model.specs.declared.namespace.Origin.TheVariants as origin
 use Rattle.vfs_model.specs.declared.namespace.RowChange.TheVariants as change
@@ -126,7 +125,8 @@ module _ (before : List (List ℕ)) (lives : List (Option LiveFile)) (states : L
       set-three (RowBehind before) v.files w.files lives (row - 1) (other - 1) (bound_file v generation begins) (file.Unbound 0) (bound_file w generation begins) (file.Unbound 0) (Some life) None
       b.rows b.each_row (λ same within. (
         bound-behind generation begins may ∙ ap (λ x. file_behind (output_in_front before x) (bound_file w generation begins)) (sym e),
-        λ device h. bound-chars generation device begins (sym e ∙ h))) (b.files other)
+        λ device h. bound-chars generation device begins (sym e ∙ h),
+      )) (b.files other)
 
   -- a device goes out in both worlds
   homes-out : (out : ℕ) → (device : ℕ) → device < length (states_taken states (backing.Device out)) →
@@ -202,7 +202,8 @@ module _ (before : List (List ℕ)) (lives : List (Option LiveFile)) (states : L
       b.devices b.each_device (λ same within. (
         λ h. ap home_of here.0 ∙ ap (λ x. home_of (file_behind (output_in_front before x) (file_at w row))) e ∙ home-same (output_before before back) (file_at w row) (here.1 back e)
             ∙ ap (λ k. home_behind (output_before before k) (home_of (file_at w row))) (sym same),
-        λ h. absurd (cc))) (b.homes device (let k = length-set states back new in omega (arith, k, l)))
+        λ h. absurd (cc),
+      )) (b.homes device (let k = length-set states back new in omega (arith, k, l)))
 
   pub free-behind : (id : FileId) (ending : End) → EndsAs (backing_of (slice_index_or lives (id.row - 1) None)) ending →
       Behind before (slice_set lives (id.row - 1) None) (states_given states ending) (change_row w (change.Free id ending)) (change_row v (change.Free id ending))

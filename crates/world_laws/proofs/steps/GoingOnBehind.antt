@@ -1,5 +1,5 @@
 -- Every step of the namespace goes on behind what devices had at entry.
-use Rattle.std.proofs.Common.{◌≡◌, ℕ, ◌-◌, ◌<◌, Bool, true, false, not, ◌||◌, T, Option, Some, None, List, [], ◌∷◌, ◌++◌, length, map, fold, reverse, slice_index_or, slice_set, Ok, if◌then◌else◌, inl, inr, refl, sym, ap, subst, ◌∙◌, arith}
+use Rattle.std.proofs.Common.{◌≡◌, ℕ, ◌-◌, ◌<◌, Bool, true, false, not, ◌||◌, T, Option, Some, None, List, [], ◌∷◌, ◌++◌, length, map, fold, reverse, slice_index_or, slice_set, if◌then◌else◌, inl, inr, refl, sym, ap, subst, ◌∙◌, arith}
 use Rattle.std.proofs.lemmas.List.{get_or_past, length-set}
 use Rattle.std.proofs.lemmas.List.Sums.{fold-append}
 use Rattle.std.specs.FinMap.Entries.{below_all, is_sorted}
@@ -45,7 +45,6 @@ use Rattle.vfs_model.specs.declared.namespace.LiveFile.{LiveFile}
 use Rattle.vfs_model.specs.declared.namespace.Mount.{Mount}
 use Rattle.vfs_model.specs.declared.namespace.Namespace.{Namespace}
 use Rattle.vfs_model.specs.declared.namespace.Origin.{Origin}
-use Rattle.vfs_model.specs.declared.namespace.Origin.TheVariants as origin
 use Rattle.vfs_model.specs.declared.namespace.Role.{Role}
 use Rattle.vfs_model.specs.declared.namespace.Role.TheVariants as role
 use Rattle.vfs_model.specs.declared.namespace.RomNode.{RomNode}
@@ -143,9 +142,6 @@ devices-ready mount n ((p, o) ∷ content) states = λ all sorted e out.
     subst (λ x. IsReady states ((p, x) ∷ content)) (sym own.is) ((let l = own.within in omega (arith, l, e), home), later)
 
 module _ (before : List (List ℕ)) (n : Namespace) where
-  same-goes : GoesOn before n n []
-  same-goes w v b = b
-
   -- a row is freed
   free-goes : (ending : Backing → End) (rows : Rows) (row : ℕ) → ((b : Backing) → EndsAs b (ending b)) → GoesOn before n rows.next rows.changes →
       GoesOn before n (free_row ending rows row).next (free_row ending rows row).changes

@@ -1,5 +1,5 @@
 -- Every step, and every list of steps, goes on behind what devices had at entry.
-use Rattle.std.proofs.Common.{◌≡◌, ℕ, ◌-◌, ◌<◌, ◌==◌, Bool, true, false, not, ◌&&◌, Option, Some, None, List, [], ◌∷◌, fold, length, slice_index_or, inl, inr, if◌then◌else◌, refl, sym, ap, subst, ◌∙◌, arith}
+use Rattle.std.proofs.Common.{◌≡◌, ℕ, ◌-◌, ◌==◌, Bool, true, false, not, Option, Some, None, List, [], ◌∷◌, fold, length, slice_index_or, inl, inr, if◌then◌else◌, refl, sym, ap, subst, ◌∙◌, arith}
 use Rattle.std.proofs.lemmas.List.{get_or_past, length-set}
 use Rattle.std.specs.Prelude.{nat_le}
 use Rattle.vfs_base.specs.declared.entry.Mark.{Mark}
@@ -15,7 +15,7 @@ use Rattle.vfs_model.specs.Boxes.{IsConsistent, fits_kind, lies_on_device}
 use Rattle.vfs_model.specs.Consistency.{agrees, same_kind}
 use Rattle.vfs_model.specs.FileLife.{backing_of, no_device, volume_named}
 use Rattle.vfs_model.specs.FileMoves.{file_step, fits_file}
-use Rattle.vfs_model.specs.Homes.{change_row, device_home, file_at, no_home, with_empty_cells, with_file}
+use Rattle.vfs_model.specs.Homes.{change_row, file_at, with_empty_cells, with_file}
 use Rattle.vfs_model.specs.Namespace.{generation_at, life_at}
 use Rattle.vfs_model.specs.NamespaceStep.{fits_namespace, namespace_step}
 use Rattle.vfs_model.specs.World.{after_format, fits_on, fits_step, is_done, namespace_part, session_of, step_on, step_row, world_step}
@@ -138,7 +138,7 @@ on-behind before w v k asked m None c b =
       ap (λ n. fits_namespace n k asked m) b.namespace,
       ap (λ n. (namespace_step n k asked m).reply) b.namespace,
       subst (λ n. IsBehind before (namespace_part w outcome asked).next (namespace_part v (namespace_step n k asked m) asked).next) (sym b.namespace)
-      (format-behind before (fold change_row begun outcome.changes) (fold change_row other outcome.changes) asked outcome.reply last),
+          (format-behind before (fold change_row begun outcome.changes) (fold change_row other outcome.changes) asked outcome.reply last),
     )
 
 pub step-goes-on : (before : List (List ℕ)) (w v : WorldState) (asker : Who) (asked : Step) (m : Mark) → IsConsistent w → IsBehind before w v → GoesOnBehind before w v asker asked m
