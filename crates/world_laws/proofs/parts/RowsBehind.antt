@@ -23,27 +23,28 @@ use Rattle.world_laws.proofs.lists.Lists.{below-or-past, same-or-other, set-here
 use Rattle.world_laws.specs.Behind.{file_behind, home_behind, output_before, output_in_front}
 
 -- three lists of one length are set at one place
-pub set-three : {X Y Z : Type 0} (P : X → Y → Z → Type 0) (xs : List X) (ys : List Y) (zs : List Z) (place other : ℕ) (x d : X) (y e : Y) (z f : Z) →
-    length xs ≡ length ys → length ys ≡ length zs → (other ≡ place → other < length zs → P x y z) → P (slice_index_or xs other d) (slice_index_or ys other e) (slice_index_or zs other f) →
-    P (slice_index_or (slice_set xs place x) other d) (slice_index_or (slice_set ys place y) other e) (slice_index_or (slice_set zs place z) other f)
-set-three P xs ys zs place other x d y e z f = λ a b new old. elim (same-or-other other place) [
-  | inr h ↦
-      subst (λ u. P u (slice_index_or (slice_set ys place y) other e) (slice_index_or (slice_set zs place z) other f)) (sym (set-there xs place other x d h))
-      (subst (λ u. P (slice_index_or xs other d) u (slice_index_or (slice_set zs place z) other f)) (sym (set-there ys place other y e h))
-      (subst (λ u. P (slice_index_or xs other d) (slice_index_or ys other e) u) (sym (set-there zs place other z f h)) old))
-  | inl h ↦ elim (below-or-past place (length zs)) [
-    | inr l ↦
-        subst (λ u. P (slice_index_or u other d) (slice_index_or (slice_set ys place y) other e) (slice_index_or (slice_set zs place z) other f))
-        (sym (set_past xs place x (omega (arith, a, b, l))))
-        (subst (λ u. P (slice_index_or xs other d) (slice_index_or u other e) (slice_index_or (slice_set zs place z) other f)) (sym (set_past ys place y (omega (arith, b, l))))
-        (subst (λ u. P (slice_index_or xs other d) (slice_index_or ys other e) (slice_index_or u other f)) (sym (set_past zs place z l)) old))
-    | inl l ↦
-        subst (λ k. P (slice_index_or (slice_set xs place x) k d) (slice_index_or (slice_set ys place y) k e) (slice_index_or (slice_set zs place z) k f)) (sym h)
-        (subst (λ u. P u (slice_index_or (slice_set ys place y) place e) (slice_index_or (slice_set zs place z) place f)) (sym (set-here xs place x d (omega (arith, a, b, l))))
-        (subst (λ u. P x u (slice_index_or (slice_set zs place z) place f)) (sym (set-here ys place y e (omega (arith, b, l))))
-        (subst (λ u. P x y u) (sym (set-here zs place z f l)) (new h (omega (arith, h, l))))))
+module _ {X Y Z : Type 0} (P : X → Y → Z → Type 0) (xs : List X) (ys : List Y) (zs : List Z) (place other : ℕ) where
+  pub set-three : (x d : X) (y e : Y) (z f : Z) → length xs ≡ length ys → length ys ≡ length zs → (other ≡ place → other < length zs → P x y z) →
+      P (slice_index_or xs other d) (slice_index_or ys other e) (slice_index_or zs other f) →
+      P (slice_index_or (slice_set xs place x) other d) (slice_index_or (slice_set ys place y) other e) (slice_index_or (slice_set zs place z) other f)
+  set-three x d y e z f = λ a b new old. elim (same-or-other other place) [
+    | inr h ↦
+        subst (λ u. P u (slice_index_or (slice_set ys place y) other e) (slice_index_or (slice_set zs place z) other f)) (sym (set-there xs place other x d h))
+        (subst (λ u. P (slice_index_or xs other d) u (slice_index_or (slice_set zs place z) other f)) (sym (set-there ys place other y e h))
+        (subst (λ u. P (slice_index_or xs other d) (slice_index_or ys other e) u) (sym (set-there zs place other z f h)) old))
+    | inl h ↦ elim (below-or-past place (length zs)) [
+      | inr l ↦
+          subst (λ u. P (slice_index_or u other d) (slice_index_or (slice_set ys place y) other e) (slice_index_or (slice_set zs place z) other f))
+          (sym (set_past xs place x (omega (arith, a, b, l))))
+          (subst (λ u. P (slice_index_or xs other d) (slice_index_or u other e) (slice_index_or (slice_set zs place z) other f)) (sym (set_past ys place y (omega (arith, b, l))))
+          (subst (λ u. P (slice_index_or xs other d) (slice_index_or ys other e) (slice_index_or u other f)) (sym (set_past zs place z l)) old))
+      | inl l ↦
+          subst (λ k. P (slice_index_or (slice_set xs place x) k d) (slice_index_or (slice_set ys place y) k e) (slice_index_or (slice_set zs place z) k f)) (sym h)
+          (subst (λ u. P u (slice_index_or (slice_set ys place y) place e) (slice_index_or (slice_set zs place z) place f)) (sym (set-here xs place x d (omega (arith, a, b, l))))
+          (subst (λ u. P x u (slice_index_or (slice_set zs place z) place f)) (sym (set-here ys place y e (omega (arith, b, l))))
+          (subst (λ u. P x y u) (sym (set-here zs place z f l)) (new h (omega (arith, h, l))))))
+    ]
   ]
-]
 
 -- the file is a character device's
 abbrev pub is_chars : FileState → Bool
