@@ -8,6 +8,7 @@ pub mod Contents
 pub mod Covering
 pub mod Emptying
 pub mod FileKeeping
+pub mod FilesBehind
 pub mod FreeRows
 pub mod Freeing
 pub mod Growing
@@ -16,6 +17,7 @@ pub mod Nodes
 pub mod Points
 pub mod Referring
 pub mod Removing
+pub mod RowsBehind
 pub mod Standing
 pub mod Taking
 pub mod TreeMoves

@@ -5,6 +5,7 @@ pub mod FileKeepingSteps
 pub mod FillAll
 pub mod FillApart
 pub mod Filling
+pub mod GoingOnBehind
 pub mod Keeping
 pub mod KeptBytes
 pub mod MkfsKeeping
@@ -25,6 +26,7 @@ pub mod ScriptAsking
 pub mod ScriptKeeping
 pub mod ShutdownKeeping
 pub mod StepKeeping
+pub mod StepsBehind
 pub mod UmountKeeping
 pub mod Unmounting
 pub mod Vacating
@@ -32,5 +34,6 @@ pub mod VolumeMount
 pub mod VolumeStaying
 pub mod VolumeSteps
 pub mod VolumeUmount
+pub mod WorldBehind
 pub mod WorldKeeping
 pub mod WorldSteps

@@ -1,3 +1,4 @@
+pub mod Behind
 pub mod Keeping
 pub mod Mounted
 pub mod Scripts

@@ -25,7 +25,11 @@
 // - what a volume keeps while it is not mounted: VolumeStaying, VolumeSteps; an unmount, any steps and a mount again: Remounting
 // - of one file: WorldKeeping; every step and every list of steps: WorldSteps; the start: Opening
 // - every schedule of a script: ScriptKeeping; what it asks: ScriptAsking
+//
+// A world behind what character devices had at entry: of files and rows in `parts`, FilesBehind and RowsBehind; of steps in
+// `steps`, GoingOnBehind, of the namespace, and StepsBehind; which world it is, and the start: WorldBehind.
 
+ghost use Rattle.world_laws.specs.Behind.{OpeningIsBehind, RunsGoOnBehind, StepsGoOnBehind, WorldsHaveOneBehind};
 ghost use Rattle.world_laws.specs.Mounted.{KeptFilesStay, KeptFilesStayLater, MountedRomShowsItsFiles, MountedVolumeShowsItsFiles, RemountedVolumeShowsItsFiles, UnmountedVolumeKeepsItsFiles, VolumeMountedLaterShowsItsFiles};
 ghost use Rattle.world_laws.specs.Keeping.{AskedMayBeTaken, FileStepsKeepConsistency, OpeningIsConsistent, RunsKeepConsistency, StepsKeepConsistency};
 ghost use Rattle.world_laws.specs.Scripts.{ScriptStepsMayBeAsked, ScriptsStayConsistent};
@@ -98,4 +102,24 @@ pub fn kept_files_stay_later()
 /// A volume that is unmounted and mounted again after any such steps shows the same folders and the same files, with the same bytes.
 pub fn volume_mounted_later_shows_its_files()
     ensures { VolumeMountedLaterShowsItsFiles }
+{}
+
+/// Every step goes on behind what character devices had at entry: it fits the same marks, answers the same, and leaves the world behind the same bytes.
+pub fn steps_go_on_behind()
+    ensures { StepsGoOnBehind }
+{}
+
+/// Steps that may be taken one after the other go on behind what character devices had at entry, with the same answers.
+pub fn runs_go_on_behind()
+    ensures { RunsGoOnBehind }
+{}
+
+/// Each consistent world has one world behind what character devices had at entry, and that one is consistent.
+pub fn worlds_have_one_behind()
+    ensures { WorldsHaveOneBehind }
+{}
+
+/// The world at the start in which character devices have output is the one that begins without, behind that output.
+pub fn opening_is_behind()
+    ensures { OpeningIsBehind }
 {}

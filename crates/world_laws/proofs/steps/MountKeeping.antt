@@ -80,7 +80,7 @@ chr-is-dev fs.Cell e = absurd (cc)
 chr-is-dev fs.Dev e = refl
 
 -- a life that has a device is a character device's
-device-life : (device : ℕ) (life : LiveFile) → lies_on_device device life.backing ≡ true → fits_kind (Some life) ≡ true → life.kind ≡ kind.Chr
+pub device-life : (device : ℕ) (life : LiveFile) → lies_on_device device life.backing ≡ true → fits_kind (Some life) ≡ true → life.kind ≡ kind.Chr
 device-life device life h fits = by life.backing refl
   where
     chr : (k : Kind) → is_device_kind k ≡ true → k ≡ kind.Chr
@@ -95,7 +95,7 @@ device-life device life h fits = by life.backing refl
     by (backing.Device other) e = chr life.kind (subst (λ x. fits_kind (Some (record life { backing = x })) ≡ true) e fits)
 
 -- without a devfs mount each device is at home
-all-home : (n : Namespace) (source : List ℕ) → Stands Nothing n → is_taken n fs.Dev source ≡ false → (device : ℕ) → device < length n.devices → (slice_index_or n.devices device no_device).is_out ≡ false
+pub all-home : (n : Namespace) (source : List ℕ) → Stands Nothing n → is_taken n fs.Dev source ≡ false → (device : ℕ) → device < length n.devices → (slice_index_or n.devices device no_device).is_out ≡ false
 all-home n source s free device l = elim (true-or-false (slice_index_or n.devices device no_device).is_out) [
   | inr h ↦ h
   | inl h ↦
