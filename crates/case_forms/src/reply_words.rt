@@ -16,7 +16,11 @@ pub fn reply_of(alloc: Global, text: &str) -> Result<Reply, CaseFault> {
         return got(alloc, bytes);
     }
     let words: Vec<&str> = text.split_whitespace().collect(alloc)?;
-    match *words.as_slice() {
+    reply_of_words(alloc, words.as_slice())
+}
+
+fn reply_of_words(alloc: Global, words: &[&str]) -> Result<Reply, CaseFault> {
+    match *words {
         ["done"] => Ok(Reply::Done),
         ["folder"] => Ok(Reply::Node {
             node: NodeKind::Dir,
@@ -111,14 +115,17 @@ fn listing(alloc: Global, parts: &[&str]) -> Result<Reply, CaseFault> {
     let [path, names @ ..] = parts else {
         return Err(CaseFault::Reply);
     };
+    let path = path_of(alloc, path)?;
+    let entries = entries_of(alloc, names)?;
+    Ok(Reply::Listing { path, entries })
+}
+
+fn entries_of(alloc: Global, names: &[&str]) -> Result<List<ListEntry>, CaseFault> {
     let mut entries = List::new(alloc);
     for name in names {
         entries.push(entry_of(alloc, name)?)?;
     }
-    Ok(Reply::Listing {
-        path: path_of(alloc, path)?,
-        entries,
-    })
+    Ok(entries)
 }
 
 fn entry_of(alloc: Global, text: &str) -> Result<ListEntry, CaseFault> {
@@ -130,9 +137,10 @@ fn entry_of(alloc: Global, text: &str) -> Result<ListEntry, CaseFault> {
     }
     let (name, file) = text.split_once(":").ok_or(CaseFault::Reply)?;
     let (row, kind) = file.split_once(":").ok_or(CaseFault::Reply)?;
+    let node = file_node(row, kind)?;
     Ok(ListEntry {
         name: name_of(alloc, name)?,
-        node: file_node(row, kind)?,
+        node,
     })
 }
 
@@ -150,11 +158,14 @@ fn mount_line(alloc: Global, text: &str) -> Result<MountLine, CaseFault> {
     let (fs, text) = text.split_once(",").ok_or(CaseFault::Reply)?;
     let (nodes, text) = text.split_once(",").ok_or(CaseFault::Reply)?;
     let (spare, point) = text.split_once(",").ok_or(CaseFault::Reply)?;
+    let fs = fs_of(fs)?;
+    let (nodes, spare) = (nodes.parse()?, spare.parse()?);
+    let source = copy_bytes(alloc, source.as_bytes())?;
     Ok(MountLine {
-        source: copy_bytes(alloc, source.as_bytes())?,
-        fs: fs_of(fs)?,
-        nodes: nodes.parse()?,
-        spare: spare.parse()?,
+        source,
+        fs,
+        nodes,
+        spare,
         point: path_of(alloc, point)?,
     })
 }
@@ -180,9 +191,10 @@ fn holders(alloc: Global, parts: &[&str]) -> Result<Reply, CaseFault> {
 
 fn holder_line(alloc: Global, text: &str) -> Result<HolderLine, CaseFault> {
     let (place, count) = text.split_once(",").ok_or(CaseFault::Reply)?;
+    let count = count.parse()?;
     Ok(HolderLine {
         place: place_of(alloc, place)?,
-        count: count.parse()?,
+        count,
     })
 }
 
@@ -217,9 +229,10 @@ fn devices(alloc: Global, parts: &[&str]) -> Result<Reply, CaseFault> {
 fn device_line(alloc: Global, text: &str) -> Result<DeviceLine, CaseFault> {
     let (name, text) = text.split_once(",").ok_or(CaseFault::Reply)?;
     let (class, state) = text.split_once(",").ok_or(CaseFault::Reply)?;
+    let class = class_of(class)?;
     Ok(DeviceLine {
         name: name_of(alloc, name)?,
-        class: class_of(class)?,
+        class,
         mounted: state == "mounted",
     })
 }
