@@ -37,11 +37,12 @@ pub mod GrowingRuns
 pub mod HeldReferences
 pub mod HeldSteps
 pub mod HeldWorlds
-pub mod KeptReferences
+pub mod KeptUsers
 pub mod KnownFiles
 pub mod KnownMappings
 pub mod KnownOpenFiles
 pub mod LeadCounts
+pub mod LeavingSessions
 pub mod LineTalks
 pub mod LivingFiles
 pub mod MappingCommandExamples
