@@ -7,6 +7,7 @@ pub mod FillApart
 pub mod Filling
 pub mod Keeping
 pub mod KeptBytes
+pub mod LeftSessions
 pub mod MkfsKeeping
 pub mod MountEnd
 pub mod MountKeeping

@@ -26,7 +26,7 @@
 
 ghost use Rattle.world_laws.specs.Mounted.{MountedRomShowsItsFiles, MountedVolumeShowsItsFiles, RemountedVolumeShowsItsFiles, UnmountedVolumeKeepsItsFiles};
 ghost use Rattle.world_laws.specs.Keeping.{AskedMayBeTaken, FileStepsKeepConsistency, OpeningIsConsistent, RunsKeepConsistency, StepsKeepConsistency};
-ghost use Rattle.world_laws.specs.Scripts.{ScriptStepsMayBeAsked, ScriptsStayConsistent};
+ghost use Rattle.world_laws.specs.Scripts.{DoneSessionsHaveLeft, ScriptEndMayBeAsked, ScriptStepsMayBeAsked, ScriptsStayConsistent};
 
 /// The world at the start of every script is consistent, whatever devices there are: the roms of a script are trees.
 pub fn opening_is_consistent()
@@ -61,6 +61,17 @@ pub fn scripts_stay_consistent()
 /// Where a script stands after any schedule, each session may ask the step that it wants, and the worker each of its own.
 pub fn script_steps_may_be_asked()
     ensures { ScriptStepsMayBeAsked }
+{}
+
+/// Where a script stands after any schedule, a session that is done has no reference and stands in `/`, where each step by which it
+/// gave up a reference, or went back to `/`, was answered Done.
+pub fn done_sessions_have_left()
+    ensures { DoneSessionsHaveLeft }
+{}
+
+/// So the end, where all sessions are done, may ask Shutdown.
+pub fn script_end_may_be_asked()
+    ensures { ScriptEndMayBeAsked }
 {}
 
 /// Below the point of a rom that was mounted stands what the rom has, with its bytes, and nothing else.

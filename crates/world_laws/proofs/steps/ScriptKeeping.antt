@@ -62,6 +62,20 @@ module _ (deck : Deck) (Good : Entry → Type 0) (Keeps : RunState → Type 0)
         entries-keep next t entries good.1 (keep s next entry good.0 h (entry-taken deck s next entry f)) more
   ] refl
 
+-- so do they with what is said of all entries from here on
+module _ (deck : Deck) (Good : Entry → Type 0) (Keeps : RunState → Type 0) (Along : RunState → List Entry → Type 0)
+    (keep : (s next : RunState) (entry : Entry) (entries : List Entry) → Good entry → Along s (entry ∷ entries) → Keeps s → IsTaken deck s next entry →
+    take_entry deck s entry ≡ Some next → Keeps next × Along next entries) where
+  pub entries-keep-along : (s t : RunState) (entries : List Entry) → AllAre Good entries → Along s entries → Keeps s → take_entries deck s entries ≡ Some t → Keeps t
+  entries-keep-along s t [] good along h e = subst Keeps (same-some s t e) h
+  entries-keep-along s t (entry ∷ entries) good along h e = elim (take_entry deck s entry) as (λ x. take_entry deck s entry ≡ x → Keeps t) [
+    | None ↦ λ f. let none : option_and_then (λ next. take_entries deck next entries) None ≡ Some t = sym (ap (option_and_then (λ next. take_entries deck next entries)) f) ∙ e in absurd (cc)
+    | Some next ↦ λ f.
+        let more : take_entries deck next entries ≡ Some t = sym (ap (option_and_then (λ next. take_entries deck next entries)) f) ∙ e in
+        let now = keep s next entry entries good.0 along h (entry-taken deck s next entry f) f in
+        entries-keep-along next t entries good.1 now.1 now.0 more
+  ] refl
+
 -- whoever an entry names may take the step that it stands for
 pub asker-takes : (deck : Deck) (s : RunState) (asker : Who) (asked : Step) → entry_step deck s asker ≡ Some asked → MayTake asker asked
 asker-takes deck s (who.Session k) asked e = tt
