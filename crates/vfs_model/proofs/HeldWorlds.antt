@@ -49,12 +49,12 @@ part-namespace w outcome asked =
 
 -- a file's step tells what it moved, or is refused
 
-or_cases : (a b : Bool) → (a || b) ≡ true → (a ≡ true) ⊎ (b ≡ true)
-or_cases true b h = inl refl
-or_cases false b h = inr h
+or-cases : (a b : Bool) → (a || b) ≡ true → (a ≡ true) ⊎ (b ≡ true)
+or-cases true b h = inl refl
+or-cases false b h = inr h
 
 nothing-before : (count moved : ℕ) → moved ≡ 0 → (count == 0 || nat_lt count moved) ≡ true → (count == 0) ≡ true
-nothing-before count moved none h = elim (or_cases (count == 0) (nat_lt count moved) h) [
+nothing-before count moved none h = elim (or-cases (count == 0) (nat_lt count moved) h) [
   | inl e ↦ e
   | inr e ↦ let less : count < moved = grind (arith, nat_tests, e) in absurd (omega (arith, less, none))
 ]

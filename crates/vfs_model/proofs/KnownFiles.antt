@@ -72,7 +72,7 @@ fewer-kept k held known fewer kept less more = record {
       record { at = is.at; one = is.one; there = more whole is.at is.one is.there; numbered = is.numbered };
 }
 
--- a step that gives up was not answered Done: of what is kept nothing is claimed from then on
+-- where a step that gives up was not answered Done, nothing is claimed of what is kept and not known
 pub lost-kept : (k : ℕ) (held : Held) (known fewer : Place → Option Keeper) → AreKept k held known →
     ((place : Place) (one : Keeper) → fewer place ≡ Some one → known place ≡ Some one) → AreKept k (lost held) fewer
 lost-kept k held known fewer kept less = record {
@@ -205,10 +205,11 @@ added-kept k held known after to new kept = λ fresh change arrives stays.
       ];
     }
 
-default-there : (held : List (Option FileId)) (place : ℕ) → slice_index_or (slice_set held place None) place None ≡ None
+-- what was taken out of a table is gone
+pub default-there : {X : Type 0} (xs : List (Option X)) (place : ℕ) → slice_index_or (slice_set xs place None) place None ≡ None
 default-there [] place = refl
-default-there (x ∷ held) zero = refl
-default-there (x ∷ held) (suc place) = default-there held place
+default-there (x ∷ xs) zero = refl
+default-there (x ∷ xs) (suc place) = default-there xs place
 
 -- a reference that is given up is known nowhere any more
 pub dropped-kept : (k : ℕ) (held : Held) (known after : Place → Option Keeper) (from : Place) (gone : Keeper) →
@@ -271,14 +272,14 @@ known-kept k held known place one kept e =
     one-keeps held.files (one.hold.number - 1) one.file (is-held held.files k one.hold one.file (kept.kept place one e)).2
 
 module _ (state : ShellState) (k : ℕ) (held : Held) where
-  -- what a command had is forgotten
+  -- what a command had is known no more
   fewer : (first second : Option Keeper) (place : Place) (one : Keeper) → known_at state None None place ≡ Some one → known_at state first second place ≡ Some one
   fewer first second (OfFile number) one e = e
   fewer first second (OfMapping place) one e = e
   fewer first second OfFirst one e = absurd (cc)
   fewer first second OfSecond one e = absurd (cc)
 
-  -- as something was lost
+  -- what a command had is forgotten, as it was lost
   pub forgets : (first second : Option Keeper) → Knows k held state first second → Knows k (lost held) state None None
   forgets first second knows = record {
     are = lost-kept k held (known_at state first second) (known_at state None None) knows.are (fewer first second);

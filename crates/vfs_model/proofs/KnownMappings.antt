@@ -5,7 +5,6 @@ use Rattle.std.proofs.lemmas.List.{get_or-set_same, get_or-set_other}
 use Rattle.std.specs.List.{list_any, position_or_len}
 use Rattle.vfs_base.specs.declared.errno.Errno.{Errno}
 use Rattle.vfs_base.specs.declared.errno.Errno.TheVariants as errno
-use Rattle.vfs_base.specs.declared.ids.FileId.{FileId}
 use Rattle.vfs_model.proofs.FreePlaces.{free-lt, free-none, not-full}
 use Rattle.vfs_model.proofs.KnownFiles.{Keeper, Knows, OfFile, OfFirst, OfMapping, OfSecond, Place, keeps_window, known-kept, known_at, moved-kept}
 use Rattle.vfs_model.proofs.KnownOpenFiles.{map-some, no-more, set-cases, then-ok}

@@ -7,14 +7,13 @@ use Rattle.std.specs.List.{list_any}
 use Rattle.std.specs.Prelude.{ℤ}
 use Rattle.vfs_base.specs.declared.errno.Errno.{Errno}
 use Rattle.vfs_base.specs.declared.errno.Errno.TheVariants as errno
-use Rattle.vfs_base.specs.declared.ids.FileId.{FileId}
-use Rattle.vfs_model.proofs.KnownFiles.{Keeper, Knows, OfFile, OfFirst, OfMapping, OfSecond, Place, fewer-kept, keeps_open, known-kept, known_at, moved-kept}
-use Rattle.vfs_model.proofs.FreePlaces.{free-none, get-in, not-full}
-use Rattle.vfs_model.proofs.SoundDescriptors.{has-room, stays-sound}
+use Rattle.vfs_model.proofs.KnownFiles.{Keeper, Knows, OfFile, OfFirst, OfMapping, OfSecond, Place, default-there, fewer-kept, keeps_open, known-kept, known_at, moved-kept}
+use Rattle.vfs_model.proofs.FreePlaces.{free-none, get-in}
+use Rattle.vfs_model.proofs.SoundDescriptors.{stays-sound}
 use Rattle.vfs_model.specs.Chain.{◌>>=◌, ◌>>◌, refuse◌when◌, wanted}
 use Rattle.vfs_model.specs.DescriptorLaws.{IsSound}
 use Rattle.vfs_model.specs.FileCommands.{changed_or_same}
-use Rattle.vfs_model.specs.HeldFiles.{Held, file_held, keeps_file, lost}
+use Rattle.vfs_model.specs.HeldFiles.{Held, file_held, keeps_file}
 use Rattle.vfs_model.specs.OpenCommands.{with_open_files}
 use Rattle.vfs_model.specs.OpenFiles.{Closed, NewDescriptor, Sought, add_file, at_place, close_file, dup_file, file_number, file_numbered, has_all_descriptors, is_last, least_free_file, new_descriptor, open_file, placed, seek, set_place, sought_offset, whence_offset, with_descriptor, with_file}
 use Rattle.vfs_model.specs.declared.shell_state.OpenFile.{OpenFile}
@@ -235,7 +234,7 @@ add-known k held state file new r knows =
     let adds = adds-file state.open_files file new r in
     added-open k held state file (least_free_file state.open_files) new.open_files adds.files
     (stays-sound.add state.open_files file new knows.sound r)
-    (has-room state.open_files knows.sound adds.room) (free-none state.open_files.files) knows
+    (stays-sound.room state.open_files knows.sound adds.room) (free-none state.open_files.files) knows
 
 -- where a descriptor is free, no open file is refused
 pub add-passes : (f : OpenFiles) (file : OpenFile) (fault : Errno) → has_all_descriptors f ≡ false → add_file f file ≡ Err fault → ⊥
@@ -284,11 +283,6 @@ close-of f fd closed (Some n) false r =
     let found : Closed = record { last = None; open_files = with_descriptor fd None f } in
     let same : found ≡ closed = ok-same found closed r in
     inr (ap (λ c. c.last) (sym same), ap (λ c. c.open_files.files) (sym same))
-
-pub default-there : {X : Type 0} (xs : List (Option X)) (place : ℕ) → slice_index_or (slice_set xs place None) place None ≡ None
-default-there [] place = refl
-default-there (x ∷ xs) zero = refl
-default-there (x ∷ xs) (suc place) = default-there xs place
 
 -- no open file of that number is left
 gone-files : (f after : OpenFiles) (n number : ℕ) (one : Keeper) → after.files ≡ slice_set f.files n None →

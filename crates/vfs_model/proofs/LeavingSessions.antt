@@ -1,5 +1,5 @@
 -- What is left of a session's exit steps gives up all that the session has.
-use Rattle.std.proofs.Common.{◌≡◌, ◌⊎◌, inl, inr, ℕ, suc, ◌-◌, ◌<◌, Bool, true, false, ◌&&◌, Option, Some, None, is_some, option_map, List, [], ◌∷◌, ◌++◌, slice_index_or, slice_set, refl, sym, ap, ◌∙◌, arith}
+use Rattle.std.proofs.Common.{◌≡◌, ◌⊎◌, inl, inr, ℕ, suc, ◌-◌, true, false, ◌&&◌, Option, Some, None, is_some, option_map, List, [], ◌∷◌, ◌++◌, slice_index_or, slice_set, refl, sym, ap, ◌∙◌, arith}
 use Rattle.std.proofs.lemmas.Bool.{and_parts}
 use Rattle.std.proofs.lemmas.Bool.Decides.{eqb_tells}
 use Rattle.std.proofs.lemmas.List.{get_or-set_other}
@@ -12,8 +12,8 @@ use Rattle.vfs_base.specs.declared.reply.Reply.TheVariants as reply
 use Rattle.vfs_base.specs.declared.step.Step.{Step}
 use Rattle.vfs_base.specs.declared.step.Step.TheVariants as step
 use Rattle.vfs_model.proofs.ExitLemmas.{gives-up-all}
-use Rattle.vfs_model.proofs.KnownFiles.{IsKnown, Knows, OfFile, OfFirst, OfMapping, OfSecond, Place, Keeper, keeps_open, keeps_window, known_at}
-use Rattle.vfs_model.proofs.KnownOpenFiles.{default-there, map-some}
+use Rattle.vfs_model.proofs.KnownFiles.{Keeper, Knows, OfFile, OfFirst, OfMapping, OfSecond, Place, default-there, keeps_open, keeps_window, known_at}
+use Rattle.vfs_model.proofs.KnownOpenFiles.{map-some}
 use Rattle.vfs_model.specs.ExitLaws.{GivesUpAll, IsOneOf, gives_up}
 use Rattle.vfs_model.specs.HeldFiles.{Held, IsEmpty, held_after}
 use Rattle.vfs_model.specs.OpenFiles.{file_numbered}

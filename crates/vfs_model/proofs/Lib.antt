@@ -22,7 +22,6 @@ pub mod EmptyMounts
 pub mod ExampleSteps
 pub mod Examples
 pub mod ExitLemmas
-pub mod ExitSteps
 pub mod FailedCallExamples
 pub mod FaultSums
 pub mod FileCommandExamples

@@ -5,7 +5,6 @@ use Rattle.vfs_base.specs.declared.reply.Reply.{Reply}
 use Rattle.vfs_base.specs.declared.reply.Reply.TheVariants as reply
 use Rattle.vfs_base.specs.declared.step.Step.TheVariants as step
 use Rattle.vfs_base.specs.declared.kinds.Kind.{Kind}
-use Rattle.vfs_base.specs.declared.ids.FileId.{FileId}
 use Rattle.vfs_model.proofs.KnownFiles.{Keeper, Knows, OfFirst, OfSecond, first-closed, first-opened, forgets, forgets-second, known-kept, known_at, second-closed, second-opened}
 use Rattle.vfs_model.proofs.OwnFiles.{AsksOwn, Behind, IsPlain, OptionAsks, RoundAsks, TalkAsks, WordsAsk, asking-formed, asking-own, if-asks, if-round, known, showing, showing-lost, turning, two-ask}
 use Rattle.vfs_model.specs.CommandText.{with_error}

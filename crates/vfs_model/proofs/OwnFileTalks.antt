@@ -12,7 +12,7 @@ use Rattle.vfs_base.specs.declared.step.Step.TheVariants as step
 use Rattle.vfs_model.proofs.KnownFiles.{Keeper, Knows, first-closed, first-opened, keeps_open}
 use Rattle.vfs_model.proofs.KnownOpenFiles.{add-known, add-passes, changed-same, close-known, dup-same, found-ok, open-kept, place-same, same-files-kept, seek-same, then-ok}
 use Rattle.vfs_model.proofs.OwnCopyTalks.{closes-asks as closing, first-keeps}
-use Rattle.vfs_model.proofs.OwnFiles.{AsksOwn, Behind, IsPlain, OptionAsks, TalkAsks, WordsAsk, asking, asking-formed, asking-own, asking-plain, changing-asks, checked-by, checked-own, if-asks, known, meaning-asks, one-asks, showing, showing-lost, three-ask, two-ask}
+use Rattle.vfs_model.proofs.OwnFiles.{AsksOwn, Behind, IsPlain, OptionAsks, TalkAsks, WordsAsk, asking, asking-formed, asking-own, asking-plain, changing-asks, checked-by, checked-own, known, meaning-asks, one-asks, showing, showing-lost, three-ask, two-ask}
 use Rattle.vfs_model.proofs.OwnFolderTalks.{done-asks, step-asks}
 use Rattle.vfs_model.proofs.StepAnswers.{refuse-passed}
 use Rattle.vfs_model.specs.Chain.{◌>>◌, refuse◌when◌}

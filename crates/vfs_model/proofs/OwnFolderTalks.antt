@@ -1,5 +1,5 @@
 -- The commands of folders and names ask only what the session may ask.
-use Rattle.std.specs.Prelude.{ℕ, Option, None, List, [], ◌∷◌, codes, refl}
+use Rattle.std.specs.Prelude.{ℕ, None, List, [], ◌∷◌, codes, refl}
 use Rattle.vfs_base.specs.Path.{Path}
 use Rattle.vfs_base.specs.declared.reply.Reply.{Reply}
 use Rattle.vfs_base.specs.declared.reply.Reply.TheVariants as reply

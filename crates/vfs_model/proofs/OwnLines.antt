@@ -22,7 +22,7 @@ use Rattle.vfs_model.specs.Command.{command, help, help_command, help_text, line
 use Rattle.vfs_model.specs.FileStep.{step_file}
 use Rattle.vfs_model.specs.HeldFiles.{AsksItsOwn, Held, IsEmpty, held_after, may_ask_held}
 use Rattle.vfs_model.specs.OpenFiles.{file_numbered}
-use Rattle.vfs_model.specs.Session.{SessionRun, close_step, exit_steps, files_to_close, home_steps, lines_run, session_run, unmap_step}
+use Rattle.vfs_model.specs.Session.{close_step, exit_steps, files_to_close, home_steps, lines_run, session_run, unmap_step}
 use Rattle.vfs_model.specs.Talk.{Talk, shows}
 use Rattle.vfs_model.specs.Words.{LineFault, line_words}
 use Rattle.vfs_model.specs.declared.shell_state.OpenFile.{OpenFile}

@@ -1,9 +1,8 @@
 -- The commands of mappings ask only what the session may ask.
-use Rattle.std.specs.Prelude.{◌≡◌, ℕ, Bool, true, false, nat_lt, ◌++◌, Option, Some, None, Result, Ok, Err, List, [], ◌∷◌, length, codes, decimal, refl}
+use Rattle.std.specs.Prelude.{◌≡◌, ℕ, Bool, true, false, nat_lt, ◌++◌, Some, None, Result, Ok, Err, List, [], ◌∷◌, length, codes, decimal, refl}
 use Rattle.std.proofs.Common.{sym, subst}
 use Rattle.vfs_base.specs.declared.errno.Errno.{Errno}
 use Rattle.vfs_base.specs.declared.errno.Errno.TheVariants as errno
-use Rattle.vfs_base.specs.declared.ids.FileId.{FileId}
 use Rattle.vfs_base.specs.declared.limits.TheConstants.{READ_MAX}
 use Rattle.vfs_base.specs.declared.reply.Reply.{Reply}
 use Rattle.vfs_base.specs.declared.reply.Reply.TheVariants as reply
@@ -12,7 +11,7 @@ use Rattle.vfs_model.proofs.KnownFiles.{Keeper, Knows, first-opened, keeps_windo
 use Rattle.vfs_model.proofs.KnownMappings.{check-kept, map-known, map-passes, remove-known}
 use Rattle.vfs_model.proofs.KnownOpenFiles.{found-ok, open-held, then-ok}
 use Rattle.vfs_model.proofs.OwnFileTalks.{gone-asks}
-use Rattle.vfs_model.proofs.OwnFiles.{AsksOwn, Behind, OptionAsks, TalkAsks, WordsAsk, asking-own, asking-plain, checked-by, checked-own, four-ask, known, meaning-asks, one-asks, showing, three-ask}
+use Rattle.vfs_model.proofs.OwnFiles.{AsksOwn, Behind, OptionAsks, WordsAsk, asking-own, asking-plain, checked-by, checked-own, four-ask, known, meaning-asks, one-asks, showing, three-ask}
 use Rattle.vfs_model.proofs.OwnFolderTalks.{step-asks}
 use Rattle.vfs_model.proofs.StepAnswers.{refuse-passed, then-first}
 use Rattle.vfs_model.specs.Chain.{◌>>=◌, ◌>>◌, refuse◌when◌}

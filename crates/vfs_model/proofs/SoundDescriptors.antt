@@ -14,7 +14,7 @@ use Rattle.vfs_model.specs.declared.shell_state.OpenFiles.{OpenFiles}
 use Rattle.vfs_model.proofs.FreePlaces.{not-full, free-first, lt-from, lt-by, get-in, some-in, ok-same, free-none, free-lt, not-both}
 use Rattle.vfs_model.proofs.LeadCounts.{leads, leads-below, all-below, one-free, leads-one, one-same, one-other, leads-more, leads-less}
 
-pub has-room : (f : OpenFiles) → IsSound f → has_all_descriptors f ≡ false → least_free_file f < length f.files
+has-room : (f : OpenFiles) → IsSound f → has_all_descriptors f ≡ false → least_free_file f < length f.files
 unfolding leads
 has-room f sound e = room-by (lt-by (least_free_file f) (length f.files) (nat_lt (least_free_file f) (length f.files)) refl)
   where

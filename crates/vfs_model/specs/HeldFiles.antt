@@ -31,7 +31,7 @@ pub record Held : Type 0 where
   pub folder : Path
   pub whole : Bool
 
--- what a session of a namespace has
+-- what a session has in a namespace, and whether all was given up that it gave up
 abbrev pub own_by : Bool → Namespace → ℕ → Held
 own_by whole n k = record { files = held_by n k; folder = folder_of n k; whole = whole }
 
@@ -139,7 +139,7 @@ pub record StandsWell (held : Held) (run : SessionRun) : Type 0 where
   pub wants : WantsItsOwn held run
   pub leaves : wanted_step run ≡ None → held.whole ≡ true → IsEmpty held
 
--- At each of these replies that its steps can have, the session may ask what it wants.
+-- At each of these replies that its steps can have, the session may ask what it wants, and where it wants nothing more it has nothing.
 abbrev pub AsksItsOwn : ℕ → List Reply → Held → (List Reply → SessionRun) → Type 0
 AsksItsOwn k [] held run = StandsWell held (run [])
 AsksItsOwn k (answer ∷ later) held run =

@@ -22,7 +22,7 @@
 // - Umount: Unmounting, Vacating, MountRemoval, UmountKeeping; what a volume keeps then: KeptBytes, VolumeUmount; both one after the other: Remounting
 // - Mkfs: MkfsKeeping; Shutdown: Resting, RootRemoval, ShutdownKeeping
 // - of one file: WorldKeeping; every step and every list of steps: WorldSteps; the start: Opening
-// - every schedule of a script: ScriptKeeping; what it asks: ScriptAsking
+// - every schedule of a script: ScriptKeeping; what it asks, and that a session that is done has left: ScriptAsking, LeftSessions
 
 ghost use Rattle.world_laws.specs.Mounted.{MountedRomShowsItsFiles, MountedVolumeShowsItsFiles, RemountedVolumeShowsItsFiles, UnmountedVolumeKeepsItsFiles};
 ghost use Rattle.world_laws.specs.Keeping.{AskedMayBeTaken, FileStepsKeepConsistency, OpeningIsConsistent, RunsKeepConsistency, StepsKeepConsistency};

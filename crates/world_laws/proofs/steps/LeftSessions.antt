@@ -1,16 +1,14 @@
 -- All references and working directories, each session's own part of them.
-use Rattle.std.proofs.Common.{◌≡◌, ◌⊎◌, inl, inr, ℕ, zero, suc, ◌+◌, ◌-◌, ◌*◌, ◌<◌, ◌≤◌, Bool, true, false, ◌&&◌, Option, Some, None, is_none, List, [], ◌∷◌, length, map, take, drop, slice_index_or, refl, sym, ap, subst, ◌∙◌, arith}
+use Rattle.std.proofs.Common.{◌≡◌, inl, inr, ℕ, zero, suc, ◌+◌, ◌-◌, ◌*◌, ◌<◌, ◌≤◌, Bool, true, ◌&&◌, Option, Some, None, is_none, List, [], ◌∷◌, length, drop, slice_index_or, refl, sym, ap, ◌∙◌, arith}
 use Rattle.std.proofs.lemmas.Bool.{and_parts}
 use Rattle.std.proofs.lemmas.List.{get_or-drop, get_or-take}
 use Rattle.std.specs.List.{list_all}
-use Rattle.std.specs.Prelude.{slice_range}
 use Rattle.vfs_base.specs.Path.{Path}
-use Rattle.vfs_base.specs.declared.ids.FileId.{FileId}
 use Rattle.vfs_model.proofs.HeldReferences.{file_kept, held-at}
 use Rattle.vfs_model.specs.Asking.{is_at_rest}
-use Rattle.vfs_model.specs.ExitLaws.{HasLeft, reference_of}
-use Rattle.vfs_model.specs.HeldFiles.{IsEmpty, held_by, own_by}
-use Rattle.vfs_model.specs.Namespace.{folder_of, references_of, same_path}
+use Rattle.vfs_model.specs.ExitLaws.{HasLeft}
+use Rattle.vfs_model.specs.HeldFiles.{IsEmpty, own_by}
+use Rattle.vfs_model.specs.Namespace.{references_of, same_path}
 use Rattle.vfs_model.specs.declared.namespace.Namespace.{Namespace}
 use Rattle.vfs_model.specs.declared.namespace.Reference.{Reference}
 use Rattle.world_laws.proofs.lists.Lists.{below-or-past}

@@ -279,9 +279,10 @@ module _ (claims : ℕ → Bool) (deck : Deck) where
   entry-keeps s next entry entries there along all taken f =
       let consistent : IsConsistent (world_step s.world entry.who taken.step entry.mark).next =
       subst (λ t. IsConsistent t.world) (sym taken.leads) (entry-consistent deck s next entry (numbered entry.who there) all.consistent taken) in
-      let given : IsGiven claims s entry.who taken.step entry.mark = λ k claim is. (along k claim).0 is taken.step taken.asked in
-      (subst (AllAskOn claims deck) taken.leads (asker-keeps claims deck s all entry.who entry.mark taken.step there taken.going taken.asked taken.fits given consistent),
-      λ k claim. (along k claim).1 next f)
+      let given : IsGiven claims s entry.who taken.step entry.mark = λ k claim is. (along k claim).0 is taken.step taken.asked in (
+        subst (AllAskOn claims deck) taken.leads (asker-keeps claims deck s all entry.who entry.mark taken.step there taken.going taken.asked taken.fits given consistent),
+        λ k claim. (along k claim).1 next f,
+      )
 
   -- what a session wants it may ask, and what the worker does
   may-ask-now : (s : RunState) (asker : Who) (asked : Step) → AllAskOn claims deck s → IsThere asker → is_end asker ≡ false → entry_step deck s asker ≡ Some asked → MayAsk s.world asker asked
