@@ -31,7 +31,7 @@ pub record Held : Type 0 where
   pub folder : Path
   pub whole : Bool
 
--- what a session has in a namespace, and whether all was given up that it gave up
+-- what a session has in a namespace, and whether its steps that give up were answered Done
 abbrev pub own_by : Bool → Namespace → ℕ → Held
 own_by whole n k = record { files = held_by n k; folder = folder_of n k; whole = whole }
 
@@ -91,22 +91,25 @@ MapsNew k held file (reply.Held new) = IsNew k held new × (is_some file ≡ tru
 MapsNew k held file (reply.Refused errno) = Unit {0}
 MapsNew k held file _ = ⊥
 
+-- bytes are got, or the step is refused
 abbrev pub IsGot : Reply → Type 0
 IsGot (reply.Got bytes) = Unit {0}
 IsGot (reply.Refused errno) = Unit {0}
 IsGot _ = ⊥
 
+-- bytes are counted, or the step is refused
 abbrev pub IsCount : Reply → Type 0
 IsCount (reply.Count n end) = Unit {0}
 IsCount (reply.Refused errno) = Unit {0}
 IsCount _ = ⊥
 
+-- the step is done, or refused
 abbrev pub IsDone : Reply → Type 0
 IsDone reply.Done = Unit {0}
 IsDone (reply.Refused errno) = Unit {0}
 IsDone _ = ⊥
 
--- a reply that a session's step can have: a reference that is told is new, and bytes are got, or counted
+-- a reply that a session's step can have: a reference that is told is new, and a step of a file tells what it moved
 abbrev pub CanReply : ℕ → List (Option FileId) → Step → Reply → Type 0
 CanReply k held (step.Open path flags) answer = OpensNew k held answer
 CanReply k held (step.Map hold) answer = MapsNew k held (file_held held k hold) answer

@@ -35,7 +35,7 @@ IsThere who.End = Unit {0}
 
 -- where a script stands after any schedule, each session may ask the step that it wants, and the worker each of its
 -- own. The end is left out: it may ask only at rest, and a session whose Close was refused for want of memory is done
--- and still has its reference. It may ask where each step that gives up was answered Done.
+-- and still has its reference. What the end may ask is told below.
 abbrev pub ScriptStepsMayBeAsked : Type 0
 ScriptStepsMayBeAsked = (deck : Deck) (describe : Describe) (schedule : List Entry) (s : RunState) (asker : Who) (asked : Step) →
     AllAre (λ entry. IsThere entry.who) schedule → IsThere asker → is_end asker ≡ false →
