@@ -42,7 +42,7 @@ mapping-kept k held state first second number window knows e =
 added-mapping : (k : ℕ) (held : Held) (state : ShellState) (window : Window) (n : ℕ) (after : List (Option Window)) →
     after ≡ slice_set state.mappings n (Some window) → n < length state.mappings → slice_index_or state.mappings n None ≡ None →
     Knows k held state (Some (keeps_window window)) None → Knows k held (with_mappings after state) None None
-added-mapping k held state window n after set small free knows = record {
+added-mapping k held state window n after set small free = λ knows. record {
   are = moved-kept k held (known_at state (Some (keeps_window window)) None) (known_at (with_mappings after state) None None) OfFirst (OfMapping n)
       (keeps_window window) knows.are refl change arrives stays;
   sound = knows.sound;
@@ -185,6 +185,6 @@ check-of (Ok window) number off len is_write at r =
 pub check-kept : (k : ℕ) (held : Held) (state : ShellState) (number off len : ℕ) (is_write : Bool) (at : FilePlace) →
     Knows k held state None None → check_mapping state.mappings number off len is_write ≡ Ok at → list_any (keeps_file at.file) held.files ≡ true
 unfolding check_mapping
-check-kept k held state number off len is_write at knows r =
+check-kept k held state number off len is_write at knows = λ r.
     let found = check-of (mapping state.mappings number) number off len is_write at r in
     subst (λ file. list_any (keeps_file file) held.files ≡ true) (sym found.2) (mapping-kept k held state None None number found.0 knows found.1)

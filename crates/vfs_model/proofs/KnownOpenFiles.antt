@@ -168,10 +168,10 @@ no-more found x e n = let no : Some x ≡ None = sym e ∙ n in cc
 
 -- a new open file's reference was the command's
 added-open : (k : ℕ) (held : Held) (state : ShellState) (file : OpenFile) (n : ℕ) (after : OpenFiles) →
-    after.files ≡ slice_set state.open_files.files n (Some file) → IsSound after → n < length state.open_files.files →
-    file_numbered state.open_files n ≡ None → Knows k held state (Some (keeps_open file)) None →
+    after.files ≡ slice_set state.open_files.files n (Some file) → n < length state.open_files.files →
+    file_numbered state.open_files n ≡ None → IsSound after → Knows k held state (Some (keeps_open file)) None →
     Knows k held (with_open_files after state) None None
-added-open k held state file n after files sound small free = λ knows. record {
+added-open k held state file n after files small free = λ sound knows. record {
   are = moved-kept k held (known_at state (Some (keeps_open file)) None) (known_at (with_open_files after state) None None) OfFirst (OfFile n)
       (keeps_open file) knows.are refl change arrives stays;
   sound = sound;
@@ -233,8 +233,8 @@ pub add-known : (k : ℕ) (held : Held) (state : ShellState) (file : OpenFile) (
 add-known k held state file new r knows =
     let adds = adds-file state.open_files file new r in
     added-open k held state file (least_free_file state.open_files) new.open_files adds.files
-    (stays-sound.add state.open_files file new knows.sound r)
-    (stays-sound.room state.open_files knows.sound adds.room) (free-none state.open_files.files) knows
+    (stays-sound.room state.open_files knows.sound adds.room) (free-none state.open_files.files)
+    (stays-sound.add state.open_files file new knows.sound r) knows
 
 -- where a descriptor is free, no open file is refused
 pub add-passes : (f : OpenFiles) (file : OpenFile) (fault : Errno) → has_all_descriptors f ≡ false → add_file f file ≡ Err fault → ⊥
