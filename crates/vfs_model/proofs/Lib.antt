@@ -22,7 +22,6 @@ pub mod EmptyMounts
 pub mod ExampleSteps
 pub mod Examples
 pub mod ExitLemmas
-pub mod ExitSteps
 pub mod FailedCallExamples
 pub mod FaultSums
 pub mod FileCommandExamples
@@ -37,11 +36,12 @@ pub mod GrowingRuns
 pub mod HeldReferences
 pub mod HeldSteps
 pub mod HeldWorlds
-pub mod KeptReferences
+pub mod KeptUsers
 pub mod KnownFiles
 pub mod KnownMappings
 pub mod KnownOpenFiles
 pub mod LeadCounts
+pub mod LeavingSessions
 pub mod LineTalks
 pub mod LivingFiles
 pub mod MappingCommandExamples

@@ -1,5 +1,6 @@
 -- The commands of folders and names ask only what the session may ask.
-use Rattle.std.specs.Prelude.{ℕ, Option, None, List, [], ◌∷◌, codes, refl}
+use Rattle.std.specs.Prelude.{ℕ, None, List, [], ◌∷◌, codes, refl}
+use Rattle.vfs_base.specs.Path.{Path}
 use Rattle.vfs_base.specs.declared.reply.Reply.{Reply}
 use Rattle.vfs_base.specs.declared.reply.Reply.TheVariants as reply
 use Rattle.vfs_base.specs.declared.step.Step.{Step}
@@ -10,46 +11,60 @@ use Rattle.vfs_base.specs.declared.kinds.NodeKind.{NodeKind}
 use Rattle.vfs_base.specs.declared.kinds.NodeKind.TheVariants as node
 use Rattle.vfs_base.specs.declared.ids.FileId.{FileId}
 use Rattle.vfs_base.specs.declared.reply.ListEntry.{ListEntry}
-use Rattle.vfs_model.proofs.OwnFiles.{Behind, IsPlain, OptionAsks, WordsAsk, asking, changing-asks, if-asks, known, none-asks, one-asks, showing, two-ask}
+use Rattle.vfs_model.proofs.KnownFiles.{Knows, moved-known}
+use Rattle.vfs_model.proofs.OwnFiles.{AsksOwn, Behind, IsPlain, OptionAsks, WordsAsk, asking, asking-own, if-asks, known, none-asks, one-asks, showing, two-ask}
 use Rattle.vfs_model.specs.FolderCommands.{cd, done_or_fails, folder_command, in_folder, is_absent, list_entries, list_file, list_node, listed, ls, mkdir, moved_to, mv, one_step, pwd, remove_all, removed, rm, rmdir, sized, stat, stat_file, stat_node, stat_size, tell_folder, told_folder}
+use Rattle.vfs_model.specs.HeldFiles.{Held, held_after_move}
 use Rattle.vfs_model.specs.Talk.{Talk, ask, changing, shows}
+use Rattle.vfs_model.specs.declared.shell_state.ShellState.{ShellState}
 
 module _ (k : ℕ) (b : Behind k) where
   pub done-asks : (command subject : List ℕ) (reply : Reply) → WordsAsk k b (done_or_fails command subject reply)
-  done-asks command subject (reply.Refused errno) = showing k b _ _ _
-  done-asks command subject _ = showing k b _ _ _
+  done-asks command subject (reply.Refused errno) = showing k b _
+  done-asks command subject _ = showing k b _
 
-  pub step-asks : (command subject : List ℕ) (asked : Step) → ((held : List (Option FileId)) → IsPlain k b held asked) → WordsAsk k b (one_step command subject asked)
+  pub step-asks : (command subject : List ℕ) (asked : Step) → ((held : Held) → IsPlain k b held asked) → WordsAsk k b (one_step command subject asked)
   step-asks command subject asked plain = asking k b None None [] asked _ plain (done-asks command subject)
 
-  shown-asks : (path : List (List ℕ)) (text : List ℕ) → WordsAsk k b (changing (in_folder path) (shows text))
-  shown-asks path text = changing-asks k b None None (in_folder path) _ (λ state held knows. knows) (showing k b _ _ _)
+  -- the shell shows the folder that it was told
+  shown-asks : (path : Path) (text : List ℕ) (state : ShellState) (held : Held) → Knows k held state None None →
+      AsksOwn k b (held_after_move held (reply.At path)) (λ more. changing (in_folder path) (shows text) state more)
+  shown-asks path text state held knows = (showing k b text).from (in_folder path state) _ (moved-known path state k held None None knows)
 
-  told : (command : List ℕ) (reply : Reply) → WordsAsk k b (told_folder command reply)
-  told command (reply.At path) = shown-asks path _
-  told command (reply.Refused errno) = showing k b _ _ _
-  told command _ = showing k b _ _ _
+  told : (command : List ℕ) (reply : Reply) (state : ShellState) (held : Held) → Knows k held state None None →
+      AsksOwn k b (held_after_move held reply) (λ more. told_folder command reply state more)
+  told command (reply.At path) = λ state held knows. shown-asks path _ state held knows
+  told command (reply.Refused errno) = λ state held knows. (showing k b _).from state held knows
+  told command _ = λ state held knows. (showing k b _).from state held knows
 
   tell : (command : List ℕ) → WordsAsk k b (tell_folder command)
-  tell command = asking k b None None [] step.Cwd _ (λ held. record { may = refl; same = λ reply. refl }) (told command)
+  tell command = record {
+    from = λ state held knows. asking-own k b [] step.Cwd (told_folder command) state held refl (λ reply can. told command reply state held knows);
+  }
 
-  moved : (word : List ℕ) (reply : Reply) → WordsAsk k b (moved_to word reply)
-  moved word (reply.At path) = shown-asks path _
-  moved word (reply.Refused errno) = showing k b _ _ _
-  moved word _ = showing k b _ _ _
+  moved : (word : List ℕ) (reply : Reply) (state : ShellState) (held : Held) → Knows k held state None None →
+      AsksOwn k b (held_after_move held reply) (λ more. moved_to word reply state more)
+  moved word (reply.At path) = λ state held knows. shown-asks path _ state held knows
+  moved word (reply.Refused errno) = λ state held knows. (showing k b _).from state held knows
+  moved word _ = λ state held knows. (showing k b _).from state held knows
+
+  moving : (word : List ℕ) → WordsAsk k b (ask (step.Chdir word) (moved_to word))
+  moving word = record {
+    from = λ state held knows. asking-own k b [] (step.Chdir word) (moved_to word) state held refl (λ reply can. moved word reply state held knows);
+  }
 
   cd-asks : (words : List (List ℕ)) → WordsAsk k b (cd words)
   cd-asks [] = tell (codes "cd")
-  cd-asks (word ∷ []) = asking k b None None [] (step.Chdir word) _ (λ held. record { may = refl; same = λ reply. refl }) (moved word)
-  cd-asks (word ∷ more ∷ words) = showing k b _ _ _
+  cd-asks (word ∷ []) = moving word
+  cd-asks (word ∷ more ∷ words) = showing k b _
 
   sized-asks : (word text name : List ℕ) (go : List ℕ → Talk) → ((t : List ℕ) → WordsAsk k b (go t)) → (reply : Reply) →
       WordsAsk k b (sized word text name go reply)
   sized-asks word text name go each (reply.SizeIs size) = each _
-  sized-asks word text name go each (reply.Refused errno) = if-asks k b _ _ (is_absent errno) _ _ (each _) (showing k b _ _ _)
-  sized-asks word text name go each _ = showing k b _ _ _
+  sized-asks word text name go each (reply.Refused errno) = if-asks k b _ _ (is_absent errno) _ _ (each _) (showing k b _)
+  sized-asks word text name go each _ = showing k b _
 
-  size-plain : (file : FileId) (held : List (Option FileId)) → IsPlain k b held (step.Size file)
+  size-plain : (file : FileId) (held : Held) → IsPlain k b held (step.Size file)
   size-plain file held = record { may = refl; same = λ reply. refl }
 
   file-asks : (word text name : List ℕ) (go : List ℕ → Talk) → ((t : List ℕ) → WordsAsk k b (go t)) → (file : FileId) (kind : Kind) →
@@ -65,53 +80,53 @@ module _ (k : ℕ) (b : Behind k) where
   node-asks word text name go each (node.File file kind) = file-asks word text name go each file kind
 
   entries-ask : (word : List ℕ) (entries : List ListEntry) (text : List ℕ) → WordsAsk k b (list_entries word entries text)
-  entries-ask word [] text = showing k b _ _ _
+  entries-ask word [] text = showing k b _
   entries-ask word (entry ∷ entries) text =
       node-asks word text entry.name (list_entries word entries) (entries-ask word entries) entry.node
 
   listed-asks : (word : List ℕ) (reply : Reply) → WordsAsk k b (listed word reply)
   listed-asks word (reply.Listing path entries) = entries-ask word entries _
-  listed-asks word (reply.Refused errno) = showing k b _ _ _
-  listed-asks word _ = showing k b _ _ _
+  listed-asks word (reply.Refused errno) = showing k b _
+  listed-asks word _ = showing k b _
 
-  list-plain : (word : List ℕ) (held : List (Option FileId)) → IsPlain k b held (step.List word)
+  list-plain : (word : List ℕ) (held : Held) → IsPlain k b held (step.List word)
   list-plain word held = record { may = refl; same = λ reply. refl }
 
   ls-asks : (words : List (List ℕ)) → WordsAsk k b (ls words)
   ls-asks [] = asking k b _ _ [] (step.List (codes ".")) (listed (codes ".")) (list-plain (codes ".")) (listed-asks (codes "."))
   ls-asks (word ∷ []) = asking k b _ _ [] (step.List word) (listed word) (list-plain word) (listed-asks word)
-  ls-asks (word ∷ more ∷ words) = showing k b _ _ _
+  ls-asks (word ∷ more ∷ words) = showing k b _
 
   removed-asks : (word : List ℕ) (go : Talk) → WordsAsk k b go → (reply : Reply) → WordsAsk k b (removed word go reply)
   removed-asks word go asks reply.Done = asks
-  removed-asks word go asks (reply.Refused errno) = showing k b _ _ _
-  removed-asks word go asks _ = showing k b _ _ _
+  removed-asks word go asks (reply.Refused errno) = showing k b _
+  removed-asks word go asks _ = showing k b _
 
   all-ask : (words : List (List ℕ)) → WordsAsk k b (remove_all words)
-  all-ask [] = showing k b _ _ _
+  all-ask [] = showing k b _
   all-ask (word ∷ words) =
       asking k b _ _ [] (step.Unlink word) _ (λ held. record { may = refl; same = λ reply. refl }) (removed-asks word (remove_all words) (all-ask words))
 
   rm-asks : (words : List (List ℕ)) → WordsAsk k b (rm words)
-  rm-asks [] = showing k b _ _ _
+  rm-asks [] = showing k b _
   rm-asks (word ∷ words) = all-ask (word ∷ words)
 
   size-asks : (word : List ℕ) (reply : Reply) → WordsAsk k b (stat_size word reply)
-  size-asks word (reply.SizeIs size) = showing k b _ _ _
-  size-asks word (reply.Refused errno) = if-asks k b _ _ (is_absent errno) _ _ (showing k b _ _ _) (showing k b _ _ _)
-  size-asks word _ = showing k b _ _ _
+  size-asks word (reply.SizeIs size) = showing k b _
+  size-asks word (reply.Refused errno) = if-asks k b _ _ (is_absent errno) _ _ (showing k b _) (showing k b _)
+  size-asks word _ = showing k b _
 
   stat-file-asks : (word : List ℕ) (file : FileId) (kind : Kind) → WordsAsk k b (stat_file word file kind)
-  stat-file-asks word file kind.Chr = showing k b _ _ _
+  stat-file-asks word file kind.Chr = showing k b _
   stat-file-asks word file kind.Tmp = asking k b _ _ [] (step.Size file) _ (size-plain file) (size-asks word)
   stat-file-asks word file kind.Rom = asking k b _ _ [] (step.Size file) _ (size-plain file) (size-asks word)
   stat-file-asks word file kind.Cell = asking k b _ _ [] (step.Size file) _ (size-plain file) (size-asks word)
 
   stat-asks : (word : List ℕ) (reply : Reply) → WordsAsk k b (stat_node word reply)
-  stat-asks word (reply.Node node.Dir) = showing k b _ _ _
+  stat-asks word (reply.Node node.Dir) = showing k b _
   stat-asks word (reply.Node (node.File file kind)) = stat-file-asks word file kind
-  stat-asks word (reply.Refused errno) = showing k b _ _ _
-  stat-asks word _ = showing k b _ _ _
+  stat-asks word (reply.Refused errno) = showing k b _
+  stat-asks word _ = showing k b _
 
   pwd-asks : (words : List (List ℕ)) → WordsAsk k b (pwd words)
   pwd-asks words = none-asks k b (codes "pwd") (tell_folder (codes "pwd")) (tell (codes "pwd")) words

@@ -12,34 +12,34 @@ use Rattle.vfs_model.specs.Talk.{Talk, ask}
 
 module _ (k : ℕ) (b : Behind k) where
   mounts-ask : (reply : Reply) → WordsAsk k b (mounts_told reply)
-  mounts-ask (reply.MountList lines) = showing k b _ _ _
-  mounts-ask (reply.Refused errno) = showing k b _ _ _
-  mounts-ask _ = showing k b _ _ _
+  mounts-ask (reply.MountList lines) = showing k b _
+  mounts-ask (reply.Refused errno) = showing k b _
+  mounts-ask _ = showing k b _
 
   devices-ask : (reply : Reply) → WordsAsk k b (devices_told reply)
-  devices-ask (reply.DeviceList lines) = showing k b _ _ _
-  devices-ask (reply.Refused errno) = showing k b _ _ _
-  devices-ask _ = showing k b _ _ _
+  devices-ask (reply.DeviceList lines) = showing k b _
+  devices-ask (reply.Refused errno) = showing k b _
+  devices-ask _ = showing k b _
 
   holders-ask : (reply : Reply) → WordsAsk k b (holders_told reply)
-  holders-ask (reply.Holders lines) = showing k b _ _ _
-  holders-ask (reply.Refused errno) = showing k b _ _ _
-  holders-ask _ = showing k b _ _ _
+  holders-ask (reply.Holders lines) = showing k b _
+  holders-ask (reply.Refused errno) = showing k b _
+  holders-ask _ = showing k b _
 
   synced-asks : (file : FileId) (go : Talk) → WordsAsk k b go → (reply : Reply) → WordsAsk k b (synced file go reply)
   synced-asks file go asks reply.Done = asks
-  synced-asks file go asks (reply.Refused errno) = if-asks k b _ _ (is_absent errno) _ _ asks (showing k b _ _ _)
-  synced-asks file go asks _ = showing k b _ _ _
+  synced-asks file go asks (reply.Refused errno) = if-asks k b _ _ (is_absent errno) _ _ asks (showing k b _)
+  synced-asks file go asks _ = showing k b _
 
   files-ask : (files : List FileId) → WordsAsk k b (sync_files files)
-  files-ask [] = showing k b _ _ _
+  files-ask [] = showing k b _
   files-ask (file ∷ files) =
       asking k b _ _ [] (step.Sync file) _ (λ held. record { may = refl; same = λ reply. refl }) (synced-asks file (sync_files files) (files-ask files))
 
   cells-ask : (reply : Reply) → WordsAsk k b (cells_told reply)
   cells-ask (reply.Files files) = files-ask files
-  cells-ask (reply.Refused errno) = showing k b _ _ _
-  cells-ask _ = showing k b _ _ _
+  cells-ask (reply.Refused errno) = showing k b _
+  cells-ask _ = showing k b _
 
   mount-words-ask : (words : List (List ℕ)) → WordsAsk k b (mount words)
   mount-words-ask words =

@@ -1,15 +1,10 @@
 -- What a session gives back when it leaves.
-use Rattle.std.specs.Prelude.{◌≡◌, ◌≢◌, ◌⊎◌, ℕ, ◌+◌, ◌-◌, ◌*◌, ◌<◌, ◌≤◌, ◌==◌, ◌&&◌, Bool, true, false, is_some, Option, Some, None, List, [], ◌∷◌, slice_index_or}
-use Rattle.std.specs.List.{list_all, list_any}
-use Rattle.vfs_base.specs.declared.entry.Mark.TheVariants as mark
+use Rattle.std.specs.Prelude.{◌≡◌, ◌≢◌, ◌⊎◌, ℕ, ◌+◌, ◌-◌, ◌*◌, ◌<◌, ◌≤◌, Bool, true, false, Option, Some, None, List, [], ◌∷◌, slice_index_or}
 use Rattle.vfs_base.specs.declared.limits.TheConstants.{HOLDS}
-use Rattle.vfs_base.specs.declared.reply.Reply.TheVariants as reply
 use Rattle.vfs_base.specs.declared.step.Step.{Step}
 use Rattle.vfs_base.specs.declared.step.Step.TheVariants as step
 use Rattle.vfs_model.specs.DescriptorLaws.{IsSound}
 use Rattle.vfs_model.specs.Namespace.{folder_of}
-use Rattle.vfs_model.specs.NamespaceOutcome.{NamespaceOutcome}
-use Rattle.vfs_model.specs.NamespaceStep.{namespace_step}
 use Rattle.vfs_model.specs.OpenFiles.{file_numbered}
 use Rattle.vfs_model.specs.Session.{SessionRun, exit_steps}
 use Rattle.vfs_model.specs.declared.namespace.Namespace.{Namespace}
@@ -45,40 +40,7 @@ gives_up (step.Unmap hold) = true
 gives_up step.Home = true
 gives_up _ = false
 
--- the step gives up the session's reference of this number
-abbrev pub gives_number : ℕ → ℕ → Step → Bool
-gives_number k number (step.Close hold) = hold.session == k && hold.number == number
-gives_number k number (step.Unmap hold) = hold.session == k && hold.number == number
-gives_number k number _ = false
-
--- a session's step of the namespace, which nothing stops
-abbrev pub clear_outcome : ℕ → Namespace → Step → NamespaceOutcome
-clear_outcome k n asked = namespace_step n k asked mark.Clear
-
--- what a session's steps leave, one after the other
-abbrev pub after_steps : ℕ → Namespace → List Step → Namespace
-after_steps k n [] = n
-after_steps k n (asked ∷ later) = after_steps k (clear_outcome k n asked).next later
-
--- each of the steps is answered Done
-abbrev pub AreDone : ℕ → Namespace → List Step → Type 0
-AreDone k n [] = Unit {0}
-AreDone k n (asked ∷ later) = ((clear_outcome k n asked).reply ≡ reply.Done) × AreDone k (clear_outcome k n asked).next later
-
--- What is known of a session that leaves: a command gives back its own references by steps that do no more, each reference of the
--- session is one that an exit step gives up, and its shell shows its working directory.
-pub record KnowsItsOwn (n : Namespace) (k : ℕ) (run : SessionRun) : Type 0 where
-  pub own : list_all gives_up run.own ≡ true
-  pub references : (number : ℕ) → 0 < number → number ≤ HOLDS → is_some (reference_of n k number) ≡ true →
-      list_any (gives_number k number) (exit_steps run) ≡ true
-  pub folder : folder_of n k ≡ run.state.shown
-
 -- the session has no reference, and stands in `/`
 pub record HasLeft (n : Namespace) (k : ℕ) : Type 0 where
   pub references : (number : ℕ) → 0 < number → number ≤ HOLDS → reference_of n k number ≡ None
   pub folder : folder_of n k ≡ []
-
--- a session whose exit steps were each answered Done has left
-abbrev pub ExitLeavesNothing : Type 0
-ExitLeavesNothing = (n : Namespace) (k : ℕ) (run : SessionRun) → KnowsItsOwn n k run → AreDone k n (exit_steps run) →
-    HasLeft (after_steps k n (exit_steps run)) k

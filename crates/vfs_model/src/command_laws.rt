@@ -2,7 +2,7 @@
 
 ghost use Rattle.vfs_model.specs.CommandLaws.{CatShowsBytes, EchoAppendsText};
 ghost use Rattle.vfs_model.specs.CopyLaws.{CopyMovesBytes};
-ghost use Rattle.vfs_model.specs.ExitLaws.{ExitGivesUpAll, ExitLeavesNothing};
+ghost use Rattle.vfs_model.specs.ExitLaws.{ExitGivesUpAll};
 
 /// `echo TEXT FILE`, alone and with room in the file, appends the text, closes the file and shows nothing.
 pub fn echo_appends_text()
@@ -22,9 +22,4 @@ pub fn copy_moves_bytes()
 /// A session that leaves gives up each of its open files and mappings, and goes back to `/`.
 pub fn exit_gives_up_all()
     ensures { ExitGivesUpAll }
-{}
-
-/// A session whose exit steps were each answered Done has no reference and stands in `/`.
-pub fn exit_leaves_nothing()
-    ensures { ExitLeavesNothing }
 {}

@@ -8,6 +8,7 @@ pub mod Filling
 pub mod GoingOnBehind
 pub mod Keeping
 pub mod KeptBytes
+pub mod LeftSessions
 pub mod MkfsKeeping
 pub mod MountEnd
 pub mod MountKeeping

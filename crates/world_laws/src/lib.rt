@@ -24,7 +24,7 @@
 // - Mkfs: MkfsKeeping; Shutdown: Resting, RootRemoval, ShutdownKeeping
 // - what a volume keeps while it is not mounted: VolumeStaying, VolumeSteps; an unmount, any steps and a mount again: Remounting
 // - of one file: WorldKeeping; every step and every list of steps: WorldSteps; the start: Opening
-// - every schedule of a script: ScriptKeeping; what it asks: ScriptAsking
+// - every schedule of a script: ScriptKeeping; what it asks, and that a session that is done has left: ScriptAsking, LeftSessions
 //
 // A world behind what character devices had at entry: of files and rows in `parts`, FilesBehind and RowsBehind; of steps in
 // `steps`, GoingOnBehind, of the namespace, and StepsBehind; which world it is, and the start: WorldBehind.
@@ -32,7 +32,7 @@
 ghost use Rattle.world_laws.specs.Behind.{OpeningIsBehind, RunsGoOnBehind, StepsGoOnBehind, WorldsHaveOneBehind};
 ghost use Rattle.world_laws.specs.Mounted.{KeptFilesStay, KeptFilesStayLater, MountedRomShowsItsFiles, MountedVolumeShowsItsFiles, RemountedVolumeShowsItsFiles, UnmountedVolumeKeepsItsFiles, VolumeMountedLaterShowsItsFiles};
 ghost use Rattle.world_laws.specs.Keeping.{AskedMayBeTaken, FileStepsKeepConsistency, OpeningIsConsistent, RunsKeepConsistency, StepsKeepConsistency};
-ghost use Rattle.world_laws.specs.Scripts.{ScriptStepsMayBeAsked, ScriptsStayConsistent};
+ghost use Rattle.world_laws.specs.Scripts.{DoneSessionsHaveLeft, ScriptEndMayBeAsked, ScriptStepsMayBeAsked, ScriptsStayConsistent};
 
 /// The world at the start of every script is consistent, whatever devices there are: the roms of a script are trees.
 pub fn opening_is_consistent()
@@ -67,6 +67,17 @@ pub fn scripts_stay_consistent()
 /// Where a script stands after any schedule, each session may ask the step that it wants, and the worker each of its own.
 pub fn script_steps_may_be_asked()
     ensures { ScriptStepsMayBeAsked }
+{}
+
+/// Where a script stands after any schedule, a session that is done has no reference and stands in `/`, where each step by which it
+/// gave up a reference, or went back to `/`, was answered Done.
+pub fn done_sessions_have_left()
+    ensures { DoneSessionsHaveLeft }
+{}
+
+/// So the end, where all sessions are done, may ask Shutdown.
+pub fn script_end_may_be_asked()
+    ensures { ScriptEndMayBeAsked }
 {}
 
 /// Below the point of a rom that was mounted stands what the rom has, with its bytes, and nothing else.

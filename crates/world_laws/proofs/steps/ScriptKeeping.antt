@@ -50,17 +50,26 @@ pub entry-taken : (deck : Deck) (s next : RunState) (entry : Entry) → take_ent
 unfolding take_entry
 entry-taken deck s next entry e = taken-going deck s next entry s.is_over refl e
 
--- what each entry that is taken keeps, all of them keep
-module _ (deck : Deck) (Good : Entry → Type 0) (Keeps : RunState → Type 0)
-    (keep : (s next : RunState) (entry : Entry) → Good entry → Keeps s → IsTaken deck s next entry → Keeps next) where
-  pub entries-keep : (s t : RunState) (entries : List Entry) → AllAre Good entries → Keeps s → take_entries deck s entries ≡ Some t → Keeps t
-  entries-keep s t [] good h e = subst Keeps (same-some s t e) h
-  entries-keep s t (entry ∷ entries) good h e = elim (take_entry deck s entry) as (λ x. take_entry deck s entry ≡ x → Keeps t) [
+-- what each entry that is taken keeps, with what is said of all entries from here on, all of them keep
+module _ (deck : Deck) (Good : Entry → Type 0) (Keeps : RunState → Type 0) (Along : RunState → List Entry → Type 0)
+    (keep : (s next : RunState) (entry : Entry) (entries : List Entry) → Good entry → Along s (entry ∷ entries) → Keeps s → IsTaken deck s next entry →
+    take_entry deck s entry ≡ Some next → Keeps next × Along next entries) where
+  pub entries-keep-along : (s t : RunState) (entries : List Entry) → AllAre Good entries → Along s entries → Keeps s → take_entries deck s entries ≡ Some t → Keeps t
+  entries-keep-along s t [] good along h e = subst Keeps (same-some s t e) h
+  entries-keep-along s t (entry ∷ entries) good along h e = elim (take_entry deck s entry) as (λ x. take_entry deck s entry ≡ x → Keeps t) [
     | None ↦ λ f. let none : option_and_then (λ next. take_entries deck next entries) None ≡ Some t = sym (ap (option_and_then (λ next. take_entries deck next entries)) f) ∙ e in absurd (cc)
     | Some next ↦ λ f.
         let more : take_entries deck next entries ≡ Some t = sym (ap (option_and_then (λ next. take_entries deck next entries)) f) ∙ e in
-        entries-keep next t entries good.1 (keep s next entry good.0 h (entry-taken deck s next entry f)) more
+        let now = keep s next entry entries good.0 along h (entry-taken deck s next entry f) f in
+        entries-keep-along next t entries good.1 now.1 now.0 more
   ] refl
+
+-- what each entry that is taken keeps by itself, all of them keep
+module _ (deck : Deck) (Good : Entry → Type 0) (Keeps : RunState → Type 0)
+    (keep : (s next : RunState) (entry : Entry) → Good entry → Keeps s → IsTaken deck s next entry → Keeps next) where
+  pub entries-keep : (s t : RunState) (entries : List Entry) → AllAre Good entries → Keeps s → take_entries deck s entries ≡ Some t → Keeps t
+  entries-keep s t entries good h e =
+      entries-keep-along deck Good Keeps (λ now later. Unit {0}) (λ now next entry later g along kept taken f. (keep now next entry g kept taken, tt)) s t entries good tt h e
 
 -- whoever an entry names may take the step that it stands for
 pub asker-takes : (deck : Deck) (s : RunState) (asker : Who) (asked : Step) → entry_step deck s asker ≡ Some asked → MayTake asker asked
