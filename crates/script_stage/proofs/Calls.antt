@@ -27,6 +27,10 @@ use Rattle.script_stage.specs.declared.stage_session.StageSession.{StageSession}
 some-same : (a b : StageSession) → Some a ≡ Some b → a ≡ b
 some-same a b e = cc
 
+-- a number whose place is one of a session
+pub numbered : (k place : ℕ) → place ≡ k - 1 → 1 ≤ k → place < 8 → IsNumber k
+numbered k place e least below = (least, omega (arith, e, least, below))
+
 pub post_done : (old : Scene) (k place : ℕ) (before after : StageSession) (line : List ℕ) → IsNumber k → place ≡ k - 1 →
     slice_get old.sessions place ≡ Some before → FollowsLine before after line →
     Does old (record { world = old.world; sessions = set old.sessions place after; schedule = old.schedule }) (Posts k line ∷ [])

@@ -12,7 +12,7 @@ ghost use Rattle.script_stage.specs.SessionTurns.{StaysThrough, TakesExit};
 ghost use Rattle.script_stage.specs.Standing.{Breaks, ClosesAt, Does, EachUpTo, Grows, IsIdle, IsThrough, Leads, LeavesAt, OthersStay, StandsAt, Stops, StopsAt, closing_tasks};
 
 use crate::phase::Phase;
-use crate::stage::{Stage, place_of};
+use crate::stage::Stage;
 use crate::stage_session::StageSession;
 use crate::step_world::StepWorld;
 use std::alloc::Global;
@@ -95,7 +95,7 @@ impl<W: StepWorld> Stage<W> {
         ensures others { OthersStay self.old.sessions self.new.sessions k }
         ensures err { OnErr result (self.new.schedule ≡ self.old.schedule) }
     {
-        let session = &mut self.sessions[place_of(k)];
+        let session = &mut self.sessions[k.place()];
         let Some(mark) = take_exit(alloc, &mut self.world, session, k)? else {
             return Ok(false);
         };
@@ -123,7 +123,7 @@ impl<W: StepWorld> Stage<W> {
     fn give_up_session(&mut self, alloc: Global, k: SessionId)
         ensures { self.new.schedule ≡ self.old.schedule }
     {
-        let session = &mut self.sessions[place_of(k)];
+        let session = &mut self.sessions[k.place()];
         session.abandon();
         leave_unseen(alloc, &mut self.world, session, k);
     }

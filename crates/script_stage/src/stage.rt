@@ -4,14 +4,13 @@ ghost use Rattle.vfs_base.specs.declared.deck.Deck.{Deck as AnyDeck};
 ghost use Rattle.vfs_base.specs.declared.describe.Describe.{Describe as AnyDescribe};
 ghost use Rattle.vfs_model.specs.DeckLaws.{IsAct, IsEvent};
 ghost use Rattle.vfs_model.specs.Homes.{opening_world};
-ghost use Rattle.vfs_model.specs.ScriptRun.{RunState, rom_image, sessions, state_after};
-ghost use Rattle.vfs_model.specs.Transcript.{sessions_text};
-ghost use Rattle.vfs_model.specs.Turns.{Leaves, Posts, RunOut, Steps, Task, act_tasks, script_tasks};
+ghost use Rattle.vfs_model.specs.ScriptRun.{rom_image, sessions};
+ghost use Rattle.vfs_model.specs.Turns.{Posts, RunOut, Steps, Task, act_tasks, script_tasks};
 ghost use Rattle.msh_session.specs.SessionTalks.{session_rest};
-ghost use Rattle.script_stage.specs.Scenes.{IsNumber, lines_left};
+ghost use Rattle.script_stage.specs.Scenes.{IsNumber};
 ghost use Rattle.script_stage.specs.Sessions.{AtWork};
 ghost use Rattle.script_stage.specs.SessionTurns.{TakesWanted};
-ghost use Rattle.script_stage.specs.Standing.{Breaks, ClosesAt, Does, EachUpTo, Grows, IsAsking, IsHandedOut, IsIdle, IsThrough, IsWork, Leads, LeavesAt, OthersStay, SessionAt, StandsAt, Stops, StopsAt, TakesTurn, closing_tasks};
+ghost use Rattle.script_stage.specs.Standing.{Breaks, ClosesAt, Does, Grows, IsAsking, IsHandedOut, IsIdle, IsWork, OthersStay, SessionAt, StandsAt, TakesTurn};
 
 use crate::phase::Phase;
 use crate::stage_session::StageSession;
@@ -136,7 +135,7 @@ impl<W: StepWorld> Stage<W> {
         ensures ok { OnOk result (Does self.old self.new (Posts k line.now ∷ [])) }
         ensures err { OnErr result (Breaks self.old self.new (Posts k line.now ∷ [])) }
     {
-        self.sessions[place_of(k)].post(alloc, line)
+        self.sessions[k.place()].post(alloc, line)
     }
 
     // Takes a step of the session's pending command; false where nothing is pending.
@@ -148,7 +147,7 @@ impl<W: StepWorld> Stage<W> {
         ensures others { OthersStay self.old.sessions self.new.sessions k }
         ensures err { OnErr result (self.new.schedule ≡ self.old.schedule) }
     {
-        match self.sessions[place_of(k)].phase() {
+        match self.sessions[k.place()].phase() {
             Phase::Idle => Ok(false),
             Phase::Lost => Err(NoMemory),
             Phase::Asking => {
@@ -166,7 +165,7 @@ impl<W: StepWorld> Stage<W> {
         ensures others { OthersStay self.old.sessions self.new.sessions k }
         ensures err { OnErr result (self.new.schedule ≡ self.old.schedule) }
     {
-        let session = &mut self.sessions[place_of(k)];
+        let session = &mut self.sessions[k.place()];
         let mark = take_wanted(alloc, &mut self.world, session, k)?;
         self.enter(Who::Session { k }, mark)
     }
@@ -269,13 +268,4 @@ fn new_sessions(alloc: Global) -> Result<Vec<StageSession>, NoMemory>
         sessions.push(session)?;
     }
     Ok(sessions)
-}
-
-// The place of a session among all.
-pub(crate) fn place_of(k: SessionId) -> usize
-    ensures place { result ≡ k - 1 }
-    ensures bound { result < 8 }
-    ensures number { IsNumber k }
-{
-    k.number() as usize - 1
 }

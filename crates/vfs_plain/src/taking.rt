@@ -1,6 +1,6 @@
 //! The entries of a schedule, taken one after the other.
 
-ghost use Rattle.std.specs.Prelude.{◌≡◌, ◌-◌, ◌+◌, ◌<◌, ◌≤◌, [], IfOk, IfSome, OnOk, false, length, replicate};
+ghost use Rattle.std.specs.Prelude.{◌≡◌, ◌-◌, ◌+◌, ◌<◌, [], IfOk, IfSome, OnOk, false, length, replicate};
 ghost use Rattle.std.specs.List.{list_all};
 ghost use Rattle.vfs_base.specs.declared.deck.Deck.{Deck as AnyDeck};
 ghost use Rattle.vfs_model.specs.ScriptRun.{RunState, entry_step, take_entry, take_step};
@@ -47,7 +47,7 @@ impl Stage {
         ensures asks { IfOk result (λ step. IfSome step (AsksStep self.now.sessions.items who)) }
     {
         match who {
-            Who::Session { k } => self.sessions[place_of(k)].wanted(alloc),
+            Who::Session { k } => self.sessions[k.place()].wanted(alloc),
             Who::Flush { row } => Ok(Some(Step::Flush { row })),
             Who::Reclaim { row } => Ok(Some(Step::Reclaim { row })),
             Who::End if self.are_through() => Ok(Some(Step::Shutdown)),
@@ -84,7 +84,7 @@ impl Stage {
         let Who::Session { k } = who else {
             return Ok(());
         };
-        self.sessions[place_of(k)].hear(alloc, deck.acts.as_slice(), reply)
+        self.sessions[k.place()].hear(alloc, deck.acts.as_slice(), reply)
     }
 
     // Whether all sessions are through with their lines and their exits.
@@ -132,13 +132,4 @@ fn session_at(place: u8) -> SessionId
         Some(k) => k,
         None => SessionId::FIRST,
     }
-}
-
-// The place of a session among all.
-fn place_of(k: SessionId) -> usize
-    ensures place { result ≡ k - 1 }
-    ensures bound { result < 8 }
-    ensures least { 1 ≤ k }
-{
-    k.number() as usize - 1
 }

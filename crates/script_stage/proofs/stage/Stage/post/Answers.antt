@@ -1,7 +1,7 @@
 use Rattle.std.proofs.Common.{◌∷◌, [], ap}
 use Rattle.std.proofs.lemmas.Result.{on_ok_weaker}
 use Rattle.vfs_model.specs.Turns.{Posts}
-use Rattle.script_stage.proofs.Calls.{breaks_off, err_of, post_call}
+use Rattle.script_stage.proofs.Calls.{breaks_off, err_of, numbered, post_call}
 use Rattle.script_stage.proofs.stage.Stage.post.Goals as goal
 use Rattle.script_stage.specs.Scenes.{Scene}
 
@@ -9,8 +9,8 @@ pub returns-clause-ok : goal.returns-clause-ok
 returns-clause-ok g c =
     let old : Scene = record { world = g.W.StepWorld.world c.self.inside.world; sessions = c.self.inside.sessions.items; schedule = c.self.inside.schedule.items } in
     on_ok_weaker c.post.result
-    (λ follows. post_call c.args.self.now old c.args.k c.place_of.result c.index_mut.result.now c.post.new.self c.args.line.now c.self.view_is
-    c.place_of.ensures.number c.place_of.ensures.place c.place_of.ensures.bound c.self.invariant c.index_mut.ensures.value follows)
+    (λ follows. post_call c.args.self.now old c.args.k c.place.result c.index_mut.result.now c.post.new.self c.args.line.now c.self.view_is
+    (numbered c.args.k c.place.result c.place.ensures.value c.place.ensures.least c.place.ensures.below) c.place.ensures.value c.place.ensures.below c.self.invariant c.index_mut.ensures.value follows)
     c.post.ensures
 
 pub returns-clause-err : goal.returns-clause-err

@@ -1,33 +1,33 @@
 use Rattle.std.proofs.Common.{refl, ap, ◌∙◌}
 use Rattle.std.proofs.lemmas.Result.{on_err_weaker, on_ok_weaker}
-use Rattle.script_stage.proofs.Calls.{asking_at, grows_call, others_call, turn_call}
+use Rattle.script_stage.proofs.Calls.{asking_at, grows_call, numbered, others_call, turn_call}
 use Rattle.script_stage.proofs.stage.Stage.take_step.Goals as goal
 use Rattle.script_stage.specs.Scenes.{Scene}
 
 pub take_wanted-requires : goal.take_wanted-requires
 take_wanted-requires g c =
     let old : Scene = record { world = g.W.StepWorld.world c.self.inside.world; sessions = c.self.inside.sessions.items; schedule = c.self.inside.schedule.items } in
-    asking_at c.args.self.now old c.args.k c.place_of.result c.index_mut-session.result.now c.self.view_is c.place_of.ensures.place c.place_of.ensures.bound c.self.invariant
+    asking_at c.args.self.now old c.args.k c.place.result c.index_mut-session.result.now c.self.view_is c.place.ensures.value c.place.ensures.below c.self.invariant
     c.index_mut-session.ensures.value c.requires
 
 pub returns-in_err-mark-clause-others : goal.returns-in_err-mark-clause-others
 returns-in_err-mark-clause-others g c =
     let old : Scene = record { world = g.W.StepWorld.world c.self.inside.world; sessions = c.self.inside.sessions.items; schedule = c.self.inside.schedule.items } in
-    others_call c.args.self.now old _ c.args.k c.place_of.result c.take_wanted.new.session c.self.view_is c.place_of.ensures.number c.place_of.ensures.place c.self.invariant refl
+    others_call c.args.self.now old _ c.args.k c.place.result c.take_wanted.new.session c.self.view_is (numbered c.args.k c.place.result c.place.ensures.value c.place.ensures.least c.place.ensures.below) c.place.ensures.value c.self.invariant refl
 
 pub returns-clause-took : goal.returns-clause-took
 returns-clause-took g c =
     let old : Scene = record { world = g.W.StepWorld.world c.self.inside.world; sessions = c.self.inside.sessions.items; schedule = c.self.inside.schedule.items } in
     on_ok_weaker c.enter.result
-    (λ is. turn_call c.args.self.now old c.enter.new.self (g.W.StepWorld.world c.take_wanted.new.world) c.args.k c.place_of.result c.index_mut-session.result.now c.take_wanted.new.session
-    c.in_ok-mark.mark c.self.view_is c.place_of.ensures.number c.place_of.ensures.place c.place_of.ensures.bound c.self.invariant
+    (λ is. turn_call c.args.self.now old c.enter.new.self (g.W.StepWorld.world c.take_wanted.new.world) c.args.k c.place.result c.index_mut-session.result.now c.take_wanted.new.session
+    c.in_ok-mark.mark c.self.view_is (numbered c.args.k c.place.result c.place.ensures.value c.place.ensures.least c.place.ensures.below) c.place.ensures.value c.place.ensures.below c.self.invariant
     c.index_mut-session.ensures.value c.requires c.in_ok-mark.ensures is)
     c.enter.ensures.ok
 
 pub returns-clause-others : goal.returns-clause-others
 returns-clause-others g c =
     let old : Scene = record { world = g.W.StepWorld.world c.self.inside.world; sessions = c.self.inside.sessions.items; schedule = c.self.inside.schedule.items } in
-    others_call c.args.self.now old c.enter.new.self.sessions c.args.k c.place_of.result c.take_wanted.new.session c.self.view_is c.place_of.ensures.number c.place_of.ensures.place c.self.invariant
+    others_call c.args.self.now old c.enter.new.self.sessions c.args.k c.place.result c.take_wanted.new.session c.self.view_is (numbered c.args.k c.place.result c.place.ensures.value c.place.ensures.least c.place.ensures.below) c.place.ensures.value c.self.invariant
     c.enter.ensures.same
 
 pub returns-clause-grows : goal.returns-clause-grows

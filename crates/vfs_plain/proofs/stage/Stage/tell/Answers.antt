@@ -10,7 +10,7 @@ returns c =
       | in-End w ↦ let end = w.in-End.is in let session = c.in-Session.is in absurd (cc)
       | in_default w ↦ w.self-is
     ] in
-    session-hears c.args.self.now c.args.who c.in-Session.k c.place_of.result c.index_mut.result.now c.in-Session.is
-    c.place_of.ensures.place c.place_of.ensures.least c.place_of.ensures.bound c.index_mut.ensures.value
+    session-hears c.args.self.now c.args.who c.in-Session.k c.place.result c.index_mut.result.now c.in-Session.is
+    c.place.ensures.value c.place.ensures.least c.place.ensures.below c.index_mut.ensures.value
     c.hear.result _ c.args.deck.now.acts c.as_slice.result.now c.args.reply.now c.hear.new.self c.as_slice.ensures refl over refl
     c.hear.ensures.number c.hear.ensures.plays
