@@ -1,4 +1,4 @@
-//! The mappings of a shell: up to eight parts of files, each read and written by its place in the part.
+//! The mappings of a shell: up to eight parts of files, each read and written by offsets in the part.
 //!
 //! A contract sees `Windows` as the list of its eight places, each with a mapping or free. What may
 //! be mapped and which bytes a mapping reaches is told in `vfs_model`, `specs/Mappings.antt`.

@@ -68,7 +68,7 @@ impl Windows {
         Ok(place as u8 + 1)
     }
 
-    /// The file of a mapping and the place in it of `len` bytes from `off` on, which are to be read,
+    /// The file of a mapping and the offset in it of `len` bytes from `off` on, which are to be read,
     /// or written where `write` says so.
     ///
     /// It is refused with the first of these that holds: `EINVAL` where no mapping has the number,
@@ -83,7 +83,7 @@ impl Windows {
         write: bool,
     ) -> Result<(FileId, u64), MapFault>
         ensures ok { IfOk result (λ found. check_mapping self.now number off len write
-            ≡ Ok (record { file = found.0; place = found.1 })) }
+            ≡ Ok (record { file = found.0; offset = found.1 })) }
         ensures fault { IfErr result
             (λ fault. check_mapping self.now number off len write ≡ Err (errno_of fault)) }
     {

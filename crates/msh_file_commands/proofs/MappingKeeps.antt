@@ -47,7 +47,7 @@ store_owns word _ state = refl
 pub reply_owns : (c : MappingCommand) (reply : Reply) (state : ShellState) → (mapping_talk c state (reply ∷ [])).own ≡ []
 reply_owns (command.Shown text) reply state = refl
 reply_owns (command.Map word part) reply state = map_owns word part reply state
-reply_owns (command.Load word file place len) reply state = load_owns word reply state
-reply_owns (command.Store word file place bytes) reply state = store_owns word reply state
+reply_owns (command.Load word file offset len) reply state = load_owns word reply state
+reply_owns (command.Store word file offset bytes) reply state = store_owns word reply state
 reply_owns (command.Sync word file) reply state = done_owns (codes "msync") word reply state
 reply_owns (command.Unmap word hold) reply state = done_owns (codes "munmap") word reply state

@@ -13,8 +13,8 @@ use Rattle.msh_file_commands.specs.declared.mappings.MappingCommand.TheVariants 
 abbrev pub mapping_talk : MappingCommand → Talk
 mapping_talk (command.Shown text) = shows text
 mapping_talk (command.Map word part) = ask (step.Map part.file.hold) (map_replied word part.file part.off part.len part.writes)
-mapping_talk (command.Load word file place len) = ask (step.Load file place len) (load_replied word)
-mapping_talk (command.Store word file place bytes) = ask (step.Store file place bytes) (store_replied word)
+mapping_talk (command.Load word file offset len) = ask (step.Load file offset len) (load_replied word)
+mapping_talk (command.Store word file offset bytes) = ask (step.Store file offset bytes) (store_replied word)
 mapping_talk (command.Sync word file) = one_step (codes "msync") word (step.Sync file)
 mapping_talk (command.Unmap word hold) = ask_holding (step.Unmap hold ∷ []) (step.Unmap hold) (done_or_fails (codes "munmap") word)
 

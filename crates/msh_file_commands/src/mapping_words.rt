@@ -84,7 +84,7 @@ fn mmap(alloc: Global, words: &[Bytes], desk: &Desk) -> Result<MappingCommand, N
 
 // Where the part lies that is read.
 fn load_checks(windows: &Windows, number: u64, off: u64, len: u64) -> Result<(FileId, u64), Errno>
-    ensures ok { IfOk result (λ found. load_checks_of windows.now number off len ≡ Ok (record { file = found.0; place = found.1 })) }
+    ensures ok { IfOk result (λ found. load_checks_of windows.now number off len ≡ Ok (record { file = found.0; offset = found.1 })) }
     ensures fault { IfErr result (λ errno. load_checks_of windows.now number off len ≡ Err errno) }
 {
     if READ_MAX < len {
@@ -107,12 +107,12 @@ fn load_mapped(
     ensures { IfOk result (λ command. GoesOn (load_talk word.now number off len) (state_of desk.now) command (state_of desk.now)) }
 {
     match load_checks(&desk.windows, number, off, len) {
-        Ok((file, place)) => {
+        Ok((file, offset)) => {
             let word = copy_word(alloc, word)?;
             Ok(MappingCommand::Load {
                 word,
                 file,
-                place,
+                offset,
                 len,
             })
         }
@@ -148,13 +148,13 @@ fn store_mapped(
     ensures { IfOk result (λ command. GoesOn (store_talk word.now text.now number off) (state_of desk.now) command (state_of desk.now)) }
 {
     match desk.windows.check(number, off, text.len() as u64, true) {
-        Ok((file, place)) => {
+        Ok((file, offset)) => {
             let word = copy_word(alloc, word)?;
             let bytes = copy_word(alloc, text)?;
             Ok(MappingCommand::Store {
                 word,
                 file,
-                place,
+                offset,
                 bytes,
             })
         }

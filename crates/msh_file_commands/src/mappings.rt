@@ -37,14 +37,14 @@ pub enum MappingCommand {
     Load {
         word: Bytes,
         file: FileId,
-        place: u64,
+        offset: u64,
         len: u64,
     },
     /// `mstore` asks Store.
     Store {
         word: Bytes,
         file: FileId,
-        place: u64,
+        offset: u64,
         bytes: Bytes,
     },
     /// `msync` asks Sync.
@@ -72,26 +72,26 @@ impl MappingCommand {
             }
             MappingCommand::Load {
                 file,
-                place,
+                offset,
                 len,
                 ..
             } => {
                 Ok(ask(Step::Load {
                     file: *file,
-                    off: *place,
+                    off: *offset,
                     len: *len,
                 }))
             }
             MappingCommand::Store {
                 file,
-                place,
+                offset,
                 bytes,
                 ..
             } => {
                 let bytes = copy_word(alloc, bytes)?;
                 Ok(ask(Step::Store {
                     file: *file,
-                    off: *place,
+                    off: *offset,
                     bytes,
                 }))
             }

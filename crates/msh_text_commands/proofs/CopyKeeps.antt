@@ -68,29 +68,29 @@ cut_leaves src dst _ state = (refl, refl)
 abbrev RoundLeaves : CopyEnd → CopyEnd → ShellState → List Step → Round CopyStage → Type 0
 RoundLeaves src dst state own round = Leaves (λ now later. round_talk (λ stage after behind. copy_from src dst stage now later) round now later) state own
 
-got_leaves : (src dst : CopyEnd) (place : ℕ) (bytes : List ℕ) (state : ShellState) →
-    RoundLeaves src dst state (both src dst) (copy_got (file_of src) (file_of dst) place bytes)
-got_leaves src dst place [] state = (refl, refl)
-got_leaves src dst place (byte ∷ bytes) state = (refl, refl)
+got_leaves : (src dst : CopyEnd) (offset : ℕ) (bytes : List ℕ) (state : ShellState) →
+    RoundLeaves src dst state (both src dst) (copy_got (file_of src) (file_of dst) offset bytes)
+got_leaves src dst offset [] state = (refl, refl)
+got_leaves src dst offset (byte ∷ bytes) state = (refl, refl)
 
-read_leaves : (src dst : CopyEnd) (place : ℕ) (reply : Reply) (state : ShellState) →
-    Leaves (λ now later. copy_from src dst (Reads place) now (reply ∷ later)) state (own_read (both src dst) reply)
-read_leaves src dst place (reply.Got bytes) state = got_leaves src dst place bytes state
-read_leaves src dst place (reply.Refused errno) state = (refl, refl)
-read_leaves src dst place _ state = (refl, refl)
+read_leaves : (src dst : CopyEnd) (offset : ℕ) (reply : Reply) (state : ShellState) →
+    Leaves (λ now later. copy_from src dst (Reads offset) now (reply ∷ later)) state (own_read (both src dst) reply)
+read_leaves src dst offset (reply.Got bytes) state = got_leaves src dst offset bytes state
+read_leaves src dst offset (reply.Refused errno) state = (refl, refl)
+read_leaves src dst offset _ state = (refl, refl)
 
-left_leaves : (src dst : CopyEnd) (place : ℕ) (bytes : List ℕ) (state : ShellState) →
-    RoundLeaves src dst state (both src dst) (copy_left (file_of src) (file_of dst) place bytes)
-left_leaves src dst place [] state =
-    cond_both (is_chr src.kind) (After (close_both (file_of src) (file_of dst) [])) (Again (Reads place))
+left_leaves : (src dst : CopyEnd) (offset : ℕ) (bytes : List ℕ) (state : ShellState) →
+    RoundLeaves src dst state (both src dst) (copy_left (file_of src) (file_of dst) offset bytes)
+left_leaves src dst offset [] state =
+    cond_both (is_chr src.kind) (After (close_both (file_of src) (file_of dst) [])) (Again (Reads offset))
     (RoundLeaves src dst state (both src dst)) (λ _. (refl, refl)) (λ _. (refl, refl))
-left_leaves src dst place (byte ∷ bytes) state = (refl, refl)
+left_leaves src dst offset (byte ∷ bytes) state = (refl, refl)
 
-written_leaves : (src dst : CopyEnd) (place : ℕ) (bytes : List ℕ) (reply : Reply) (state : ShellState) →
-    Leaves (λ now later. copy_from src dst (Writes place bytes) now (reply ∷ later)) state (own_written (both src dst) reply)
-written_leaves src dst place bytes (reply.Count n end) state = left_leaves src dst (moved_offset place n) (drop n bytes) state
-written_leaves src dst place bytes (reply.Refused errno) state = (refl, refl)
-written_leaves src dst place bytes _ state = (refl, refl)
+written_leaves : (src dst : CopyEnd) (offset : ℕ) (bytes : List ℕ) (reply : Reply) (state : ShellState) →
+    Leaves (λ now later. copy_from src dst (Writes offset bytes) now (reply ∷ later)) state (own_written (both src dst) reply)
+written_leaves src dst offset bytes (reply.Count n end) state = left_leaves src dst (moved_offset offset n) (drop n bytes) state
+written_leaves src dst offset bytes (reply.Refused errno) state = (refl, refl)
+written_leaves src dst offset bytes _ state = (refl, refl)
 
 both_closed_leaves : (src dst : CopyEnd) (text : List ℕ) (reply : Reply) (state : ShellState) →
     Leaves (copy_closed dst.word text (close_source (file_of src)) reply) state (own_done (own_source src) reply)
@@ -109,8 +109,8 @@ reply_leaves (command.Shown text) reply state = (refl, refl)
 reply_leaves (command.Open word other) reply state = opened_leaves word other reply state
 reply_leaves (command.OpenTo src word) reply state = both_opened_leaves src word reply state
 reply_leaves (command.Cut src dst) reply state = cut_leaves src dst reply state
-reply_leaves (command.Read src dst place) reply state = read_leaves src dst place reply state
-reply_leaves (command.Write src dst place bytes) reply state = written_leaves src dst place bytes reply state
+reply_leaves (command.Read src dst offset) reply state = read_leaves src dst offset reply state
+reply_leaves (command.Write src dst offset bytes) reply state = written_leaves src dst offset bytes reply state
 reply_leaves (command.CloseTo src dst text) reply state = both_closed_leaves src dst text reply state
 reply_leaves (command.CloseFrom src text) reply state = closed_leaves src text reply state
 

@@ -86,7 +86,7 @@ cat_round_leaves : (reading : CatReading) (reply : Reply) (state : ShellState) �
 cat_round_leaves reading (reply.Got bytes) state whole =
     cond_both (is_read_out reading.kind bytes)
     (After (closes (codes "cat") reading.word reading.hold (reading.text ++ bytes) (cat_files reading.others.items)))
-    (Again (record { place = moved_offset reading.place (length bytes); text = reading.text ++ bytes }))
+    (Again (record { offset = moved_offset reading.offset (length bytes); text = reading.text ++ bytes }))
     (λ round. Leaves (λ now later. round_talk (λ stage after behind. cat_from reading stage now later) round now later) state (step.Close reading.hold ∷ []))
     (λ _. (refl, refl)) (λ _. (refl, refl))
 cat_round_leaves reading (reply.Refused errno) state whole = (refl, refl)

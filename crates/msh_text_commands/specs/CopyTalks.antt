@@ -33,8 +33,8 @@ copy_talk (command.Shown text) = shows text
 copy_talk (command.Open word other) = ask (step.Open word to_read) (source_opened word other)
 copy_talk (command.OpenTo src word) = open_destination word (file_of src)
 copy_talk (command.Cut src dst) = ask_holding (both src dst) (step.Trunc dst.file 0) (copy_cut (file_of src) (file_of dst))
-copy_talk (command.Read src dst place) = copy_from src dst (Reads place)
-copy_talk (command.Write src dst place bytes) = copy_from src dst (Writes place bytes)
+copy_talk (command.Read src dst offset) = copy_from src dst (Reads offset)
+copy_talk (command.Write src dst offset bytes) = copy_from src dst (Writes offset bytes)
 copy_talk (command.CloseTo src dst text) = close_both (file_of src) (file_of dst) text
 copy_talk (command.CloseFrom src text) = close_source (file_of src) text
 
@@ -77,8 +77,8 @@ own_behind (command.Shown text) reply = []
 own_behind (command.Open word other) reply = own_opened reply
 own_behind (command.OpenTo src word) reply = own_both_opened src reply
 own_behind (command.Cut src dst) reply = own_done (both src dst) reply
-own_behind (command.Read src dst place) reply = own_read (both src dst) reply
-own_behind (command.Write src dst place bytes) reply = own_written (both src dst) reply
+own_behind (command.Read src dst offset) reply = own_read (both src dst) reply
+own_behind (command.Write src dst offset bytes) reply = own_written (both src dst) reply
 own_behind (command.CloseTo src dst text) reply = own_done (own_source src) reply
 own_behind (command.CloseFrom src text) reply = []
 

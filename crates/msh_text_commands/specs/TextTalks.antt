@@ -18,7 +18,7 @@ cat_from reading stage =
     ask_in_turn (step.Close reading.hold ∷ []) (cat_step reading.file) (cat_round reading.word reading.hold reading.kind (cat_files reading.others.items)) stage
 
 abbrev pub stage_of : CatReading → CatStage
-stage_of reading = record { place = reading.place; text = reading.text }
+stage_of reading = record { offset = reading.offset; text = reading.text }
 
 -- the file is read on, or the reading is over
 abbrev pub cat_after : CatReading → Round CatStage → Talk

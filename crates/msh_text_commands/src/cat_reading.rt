@@ -11,7 +11,7 @@ pub struct CatReading {
     pub file: FileId,
     pub kind: Kind,
     /// Where the next bytes are read.
-    pub place: u64,
+    pub offset: u64,
     /// The bytes of all files so far.
     pub text: Bytes,
 }

@@ -46,13 +46,13 @@ pub enum CopyCommand {
     Read {
         src: CopyEnd,
         dst: CopyEnd,
-        place: u64,
+        offset: u64,
     },
     /// It asks Write.
     Write {
         src: CopyEnd,
         dst: CopyEnd,
-        place: u64,
+        offset: u64,
         bytes: Unwritten,
     },
     /// It asks the Close of the destination.
@@ -89,23 +89,23 @@ impl CopyCommand {
                 file: dst.file,
                 len: 0,
             })),
-            CopyCommand::Read { src, place, .. } => {
+            CopyCommand::Read { src, offset, .. } => {
                 Ok(ask(Step::Read {
                     file: src.file,
-                    off: *place,
+                    off: *offset,
                     len: PAGE_SIZE,
                 }))
             }
             CopyCommand::Write {
                 dst,
-                place,
+                offset,
                 bytes,
                 ..
             } => {
                 let bytes = copy_bytes(alloc, bytes.as_slice())?;
                 Ok(ask(Step::Write {
                     file: dst.file,
-                    off: *place,
+                    off: *offset,
                     bytes,
                 }))
             }
@@ -187,13 +187,13 @@ impl CopyCommand {
             CopyCommand::Open { word, other } => source_opened(alloc, word, other, reply),
             CopyCommand::OpenTo { src, word } => destination_opened(alloc, src, word, reply),
             CopyCommand::Cut { src, dst } => destination_cut(alloc, src, dst, reply),
-            CopyCommand::Read { src, dst, place } => copy_read(alloc, src, dst, place, reply),
+            CopyCommand::Read { src, dst, offset } => copy_read(alloc, src, dst, offset, reply),
             CopyCommand::Write {
                 src,
                 dst,
-                place,
+                offset,
                 bytes,
-            } => { copy_written(alloc, src, dst, place, bytes, reply) }
+            } => { copy_written(alloc, src, dst, offset, bytes, reply) }
             CopyCommand::CloseTo { src, dst, text } => destination_closed(src, &dst, text, reply),
             CopyCommand::CloseFrom { src, text } => source_closed(&src, text, reply),
         }
@@ -254,7 +254,11 @@ fn destination_cut(
     ensures { IfOk result (λ next. copy_talk next ≡ copy_cut_talk (file_of src) (file_of dst) reply.now) }
 {
     match reply {
-        Reply::Done => Ok(CopyCommand::Read { src, dst, place: 0 }),
+        Reply::Done => Ok(CopyCommand::Read {
+            src,
+            dst,
+            offset: 0,
+        }),
         Reply::Refused { errno } => failed(alloc, src, dst, *errno),
         _ => Ok(shown(Bytes::new(alloc))),
     }
@@ -276,7 +280,11 @@ fn copy_from_start(alloc: Global, src: CopyEnd, dst: CopyEnd) -> Result<CopyComm
     if matches!(dst.kind, Kind::Tmp | Kind::Cell) {
         return Ok(CopyCommand::Cut { src, dst });
     }
-    Ok(CopyCommand::Read { src, dst, place: 0 })
+    Ok(CopyCommand::Read {
+        src,
+        dst,
+        offset: 0,
+    })
 }
 
 fn destination_opened(
@@ -373,10 +381,10 @@ fn copy_read(
     alloc: Global,
     src: CopyEnd,
     dst: CopyEnd,
-    place: u64,
+    offset: u64,
     reply: &Reply,
 ) -> Result<CopyCommand, NoMemory>
-    ensures { IfOk result (λ next. copy_talk next ≡ copy_after src dst (copy_read_round (file_of src) (file_of dst) place reply.now)) }
+    ensures { IfOk result (λ next. copy_talk next ≡ copy_after src dst (copy_read_round (file_of src) (file_of dst) offset reply.now)) }
 {
     match reply {
         Reply::Got { bytes } if bytes.is_empty() => {
@@ -391,7 +399,7 @@ fn copy_read(
             Ok(CopyCommand::Write {
                 src,
                 dst,
-                place,
+                offset,
                 bytes: Unwritten::new(bytes),
             })
         }
@@ -405,14 +413,14 @@ fn copy_read(
 }
 
 // Behind the last byte a character device is not read again.
-fn copy_left(src: CopyEnd, dst: CopyEnd, place: u64, bytes: Unwritten) -> CopyCommand
-    ensures { copy_talk result ≡ copy_after src dst (copy_left_round (file_of src) (file_of dst) place bytes) }
+fn copy_left(src: CopyEnd, dst: CopyEnd, offset: u64, bytes: Unwritten) -> CopyCommand
+    ensures { copy_talk result ≡ copy_after src dst (copy_left_round (file_of src) (file_of dst) offset bytes) }
 {
     if !bytes.is_empty() {
         return CopyCommand::Write {
             src,
             dst,
-            place,
+            offset,
             bytes,
         };
     }
@@ -420,7 +428,7 @@ fn copy_left(src: CopyEnd, dst: CopyEnd, place: u64, bytes: Unwritten) -> CopyCo
         let text = src.word.empty_like();
         return CopyCommand::CloseTo { src, dst, text };
     }
-    CopyCommand::Read { src, dst, place }
+    CopyCommand::Read { src, dst, offset }
 }
 
 // A rest is written on, behind what was written.
@@ -428,16 +436,16 @@ fn copy_written(
     alloc: Global,
     src: CopyEnd,
     dst: CopyEnd,
-    place: u64,
+    offset: u64,
     mut bytes: Unwritten,
     reply: &Reply,
 ) -> Result<CopyCommand, NoMemory>
-    ensures { IfOk result (λ next. copy_talk next ≡ copy_after src dst (copy_written_round (file_of src) (file_of dst) place bytes reply.now)) }
+    ensures { IfOk result (λ next. copy_talk next ≡ copy_after src dst (copy_written_round (file_of src) (file_of dst) offset bytes reply.now)) }
 {
     match reply {
         Reply::Count { n, .. } => {
             bytes.advance(*n);
-            Ok(copy_left(src, dst, moved_offset(place, *n), bytes))
+            Ok(copy_left(src, dst, moved_offset(offset, *n), bytes))
         }
         Reply::Refused { errno } => {
             let mut text = Bytes::new(alloc);

@@ -86,7 +86,7 @@ impl TextCommand {
             TextCommand::CatRead { reading } => {
                 Ok(ask(Step::Read {
                     file: reading.file,
-                    off: reading.place,
+                    off: reading.offset,
                     len: PAGE_SIZE,
                 }))
             }
@@ -281,7 +281,7 @@ fn cat_opened(
                 hold: *hold,
                 file: *file,
                 kind: *kind,
-                place: 0,
+                offset: 0,
                 text,
             },
         }),
@@ -300,7 +300,7 @@ fn cat_got(reading: CatReading, bytes: &Bytes) -> Result<TextCommand, NoMemory>
         hold,
         file,
         kind,
-        place,
+        offset,
         mut text,
     } = reading;
     text.extend_from_slice(bytes.as_slice())?;
@@ -312,7 +312,7 @@ fn cat_got(reading: CatReading, bytes: &Bytes) -> Result<TextCommand, NoMemory>
             text,
         });
     }
-    let place = moved_offset(place, bytes.len() as u64);
+    let offset = moved_offset(offset, bytes.len() as u64);
     Ok(TextCommand::CatRead {
         reading: CatReading {
             word,
@@ -320,7 +320,7 @@ fn cat_got(reading: CatReading, bytes: &Bytes) -> Result<TextCommand, NoMemory>
             hold,
             file,
             kind,
-            place,
+            offset,
             text,
         },
     })

@@ -1,4 +1,4 @@
--- Bytes written in their place.
+-- Bytes written at their offset.
 use Rattle.std.proofs.Common.{rules, arith, ◌≡◌, ℕ, ◌+◌, ◌-◌, ◌<◌, ◌≤◌, max, List, [], ◌∷◌, ◌++◌, length, take, drop, replicate, ap₂}
 use Rattle.std.proofs.lemmas.List.{same_lists, places}
 use Rattle.vfs_model.specs.FileStep.{cut_or_padded, written_at}

@@ -1,4 +1,4 @@
-//! Bytes that are written in their place.
+//! Bytes that are written at their offset.
 
 ghost use Rattle.std.specs.Prelude.{◌≡◌, ◌+◌, ◌-◌, ◌<◌, ◌≤◌, ◌^◌, ◌++◌, length, take, drop, replicate, OnOk, OnErr};
 ghost use Rattle.vfs_model.specs.FileStep.{written_at};

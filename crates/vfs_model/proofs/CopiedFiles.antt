@@ -79,101 +79,101 @@ cut-all : (e : Copied) → is_rom e.dst.kind ≡ false →
 unfolding file_step
 cut-all e writable = ap (λ (r : Result (Unit {0}) Errno). clear_step (destination_file e e.old) (step.Trunc e.dst.file 0) r) (cut-passes e writable)
 
--- the copy from a place on, and the replies that lead to its end
+-- the copy from an offset on, and the replies that lead to its end
 abbrev copying : Copied → CopyStage → Talk
 copying e spot = ask_in_turn (step.Close e.src.hold ∷ step.Close e.dst.hold ∷ []) (copy_step e.src e.dst) (copy_round e.src e.dst) spot
 
-record Copies (e : Copied) (state : ShellState) (place : ℕ) : Type 0 where
+record Copies (e : Copied) (state : ShellState) (offset : ℕ) : Type 0 where
   replies : List Reply
-  moves : AreCopies e (destination_file e (take place e.bytes)) place replies (destination_file e e.bytes)
-  ends : (more : List Reply) → copying e (Reads place) state (replies ++ more) ≡ close_both e.src e.dst [] state more
+  moves : AreCopies e (destination_file e (take offset e.bytes)) offset replies (destination_file e e.bytes)
+  ends : (more : List Reply) → copying e (Reads offset) state (replies ++ more) ≡ close_both e.src e.dst [] state more
 
 -- once a piece is written the next one is read
-left-nothing : (e : Copied) (place : ℕ) (left : List ℕ) → is_chr e.src.kind ≡ false → left ≡ [] →
-    copy_left e.src e.dst place left ≡ Again (Reads place)
-left-nothing e place [] plain h =
-    ap (λ (chr : Bool). if chr then After (close_both e.src e.dst []) else Again (Reads place)) plain
-left-nothing e place (byte ∷ left) plain h = absurd (cc)
+left-nothing : (e : Copied) (offset : ℕ) (left : List ℕ) → is_chr e.src.kind ≡ false → left ≡ [] →
+    copy_left e.src e.dst offset left ≡ Again (Reads offset)
+left-nothing e offset [] plain h =
+    ap (λ (chr : Bool). if chr then After (close_both e.src e.dst []) else Again (Reads offset)) plain
+left-nothing e offset (byte ∷ left) plain h = absurd (cc)
 
 module _ (e : Copied) (state : ShellState) (plain : is_chr e.src.kind ≡ false) (writable : is_rom e.dst.kind ≡ false)
     (fits : length e.bytes ≤ e.room) (small : length e.bytes ≤ place_max) where
   abbrev piece_at : ℕ → List ℕ
-  piece_at place = take (min PAGE_SIZE (length e.bytes - place)) (drop place e.bytes)
+  piece_at offset = take (min PAGE_SIZE (length e.bytes - offset)) (drop offset e.bytes)
 
-  reads-so : (place : ℕ) → (file_step (source_file e) (step.Read e.src.file place PAGE_SIZE) mark.Clear).reply ≡ reply.Got (piece_at place)
-  reads-so place = read-bytes (as_catted e) state plain small place
+  reads-so : (offset : ℕ) → (file_step (source_file e) (step.Read e.src.file offset PAGE_SIZE) mark.Clear).reply ≡ reply.Got (piece_at offset)
+  reads-so offset = read-bytes (as_catted e) state plain small offset
 
-  size-so : (place : ℕ) → length (piece_at place) ≡ min PAGE_SIZE (length e.bytes - place)
-  size-so place = piece-length (as_catted e) state plain small place
+  size-so : (offset : ℕ) → length (piece_at offset) ≡ min PAGE_SIZE (length e.bytes - offset)
+  size-so offset = piece-length (as_catted e) state plain small offset
 
-  nothing-more : (place : ℕ) → [] ≡ piece_at place → Copies e state place
-  nothing-more place p =
-      let none : 0 ≡ length (piece_at place) = ap length p in
-      let past : length e.bytes ≤ place = omega (arith, none, size-so place) in
+  nothing-more : (offset : ℕ) → [] ≡ piece_at offset → Copies e state offset
+  nothing-more offset p =
+      let none : 0 ≡ length (piece_at offset) = ap length p in
+      let past : length e.bytes ≤ offset = omega (arith, none, size-so offset) in
       record {
         replies = reply.Got [] ∷ [];
-        moves = (ap reply.Got p ∙ sym (reads-so place), ap (destination_file e) (sym (take_all place e.bytes past)));
+        moves = (ap reply.Got p ∙ sym (reads-so offset), ap (destination_file e) (sym (take_all offset e.bytes past)));
         ends = λ more. refl;
       }
 
-  -- a page more at its place
-  page-written : (place byte : ℕ) (rest : List ℕ) → byte ∷ rest ≡ piece_at place → place ≤ length e.bytes →
-      file_step (destination_file e (take place e.bytes)) (step.Write e.dst.file place (byte ∷ rest)) mark.Clear
+  -- a page more at its offset
+  page-written : (offset byte : ℕ) (rest : List ℕ) → byte ∷ rest ≡ piece_at offset → offset ≤ length e.bytes →
+      file_step (destination_file e (take offset e.bytes)) (step.Write e.dst.file offset (byte ∷ rest)) mark.Clear
       ≡ record {
-        reply = reply.Count (length (byte ∷ rest)) (place + length (byte ∷ rest));
-        next = destination_file e (take (place + length (byte ∷ rest)) e.bytes);
+        reply = reply.Count (length (byte ∷ rest)) (offset + length (byte ∷ rest));
+        next = destination_file e (take (offset + length (byte ∷ rest)) e.bytes);
       }
-  page-written place byte rest p l =
+  page-written offset byte rest p l =
       let count : ℕ = length (byte ∷ rest) in
-      let done : List ℕ = take place e.bytes in
-      let size : count ≡ min PAGE_SIZE (length e.bytes - place) = ap length p ∙ size-so place in
-      let here : length done ≡ place = length-take-le place e.bytes l in
+      let done : List ℕ = take offset e.bytes in
+      let size : count ≡ min PAGE_SIZE (length e.bytes - offset) = ap length p ∙ size-so offset in
+      let here : length done ≡ offset = length-take-le offset e.bytes l in
       let enough : length done + count ≤ e.room = omega (arith, here, size, l, fits) in
-      let joined : done ++ byte ∷ rest ≡ take (place + count) e.bytes =
-      ap (λ piece. done ++ piece) (p ∙ ap (λ n. take n (drop place e.bytes)) (sym size)) ∙ sym (take-add place count e.bytes) in
-      let next_file : FileOutcome = record { reply = reply.Count count (place + count); next = destination_file e (done ++ byte ∷ rest) } in
+      let joined : done ++ byte ∷ rest ≡ take (offset + count) e.bytes =
+      ap (λ piece. done ++ piece) (p ∙ ap (λ n. take n (drop offset e.bytes)) (sym size)) ∙ sym (take-add offset count e.bytes) in
+      let next_file : FileOutcome = record { reply = reply.Count count (offset + count); next = destination_file e (done ++ byte ∷ rest) } in
       subst (λ off. file_step (destination_file e done) (step.Write e.dst.file off (byte ∷ rest)) mark.Clear
       ≡ record { reply = reply.Count count (off + count); next = destination_file e (done ++ byte ∷ rest) }) here
       (written-behind e done byte rest writable enough)
       ∙ ap (λ (written : List ℕ). record next_file { next = destination_file e written }) joined
 
-  one-more : (place byte : ℕ) (rest : List ℕ) → byte ∷ rest ≡ piece_at place → place ≤ length e.bytes →
-      Copies e state (place + length (byte ∷ rest)) → Copies e state place
-  one-more place byte rest p l later =
+  one-more : (offset byte : ℕ) (rest : List ℕ) → byte ∷ rest ≡ piece_at offset → offset ≤ length e.bytes →
+      Copies e state (offset + length (byte ∷ rest)) → Copies e state offset
+  one-more offset byte rest p l later =
       let count : ℕ = length (byte ∷ rest) in
-      let size : count ≡ min PAGE_SIZE (length e.bytes - place) = ap length p ∙ size-so place in
-      let there : moved_offset place count ≡ place + count = omega (arith, size, l, small) in
-      let page = page-written place byte rest p l in
+      let size : count ≡ min PAGE_SIZE (length e.bytes - offset) = ap length p ∙ size-so offset in
+      let there : moved_offset offset count ≡ offset + count = omega (arith, size, l, small) in
+      let page = page-written offset byte rest p l in
       record {
-        replies = reply.Got (byte ∷ rest) ∷ reply.Count count (place + count) ∷ later.replies;
+        replies = reply.Got (byte ∷ rest) ∷ reply.Count count (offset + count) ∷ later.replies;
         moves = (
-          ap reply.Got p ∙ sym (reads-so place),
+          ap reply.Got p ∙ sym (reads-so offset),
           sym (ap (λ (o : FileOutcome). o.reply) page),
-          subst (λ dst. AreCopies e dst (place + count) later.replies (destination_file e e.bytes)) (sym (ap (λ (o : FileOutcome). o.next) page)) later.moves,
+          subst (λ dst. AreCopies e dst (offset + count) later.replies (destination_file e e.bytes)) (sym (ap (λ (o : FileOutcome). o.next) page)) later.moves,
         );
         ends = λ more.
             let behind : List Reply = later.replies ++ more in
             ap (λ (round : Round CopyStage). round_talk (λ spot now left. copying e spot state behind) round state behind)
-            (left-nothing e (moved_offset place count) (drop count (byte ∷ rest)) plain (drop-length (byte ∷ rest)))
+            (left-nothing e (moved_offset offset count) (drop count (byte ∷ rest)) plain (drop-length (byte ∷ rest)))
             ∙ ap (λ (spot : ℕ). copying e (Reads spot) state behind) there
             ∙ later.ends more;
       }
 
-  none-left : (place byte : ℕ) (rest : List ℕ) → byte ∷ rest ≡ piece_at place → length e.bytes ≤ place + 0 → ⊥
-  none-left place byte rest p h =
-      let size : length (byte ∷ rest) ≡ min PAGE_SIZE (length e.bytes - place) = ap length p ∙ size-so place in
+  none-left : (offset byte : ℕ) (rest : List ℕ) → byte ∷ rest ≡ piece_at offset → length e.bytes ≤ offset + 0 → ⊥
+  none-left offset byte rest p h =
+      let size : length (byte ∷ rest) ≡ min PAGE_SIZE (length e.bytes - offset) = ap length p ∙ size-so offset in
       omega (arith, size, h)
 
-  copies-from : (fuel place : ℕ) (piece : List ℕ) → piece ≡ piece_at place → place ≤ length e.bytes → length e.bytes ≤ place + fuel →
-      Copies e state place
-  copies-from fuel place [] p l h = nothing-more place p
-  copies-from zero place (byte ∷ rest) p l h = absurd (none-left place byte rest p h)
-  copies-from (suc fuel) place (byte ∷ rest) p l h =
-      let size : length (byte ∷ rest) ≡ min PAGE_SIZE (length e.bytes - place) = ap length p ∙ size-so place in
-      let within : place + length (byte ∷ rest) ≤ length e.bytes = omega (arith, size, l) in
-      let nearer : length e.bytes ≤ place + length (byte ∷ rest) + fuel = omega (arith, h) in
-      one-more place byte rest p l
-      (copies-from fuel (place + length (byte ∷ rest)) (piece_at (place + length (byte ∷ rest))) refl within nearer)
+  copies-from : (fuel offset : ℕ) (piece : List ℕ) → piece ≡ piece_at offset → offset ≤ length e.bytes → length e.bytes ≤ offset + fuel →
+      Copies e state offset
+  copies-from fuel offset [] p l h = nothing-more offset p
+  copies-from zero offset (byte ∷ rest) p l h = absurd (none-left offset byte rest p h)
+  copies-from (suc fuel) offset (byte ∷ rest) p l h =
+      let size : length (byte ∷ rest) ≡ min PAGE_SIZE (length e.bytes - offset) = ap length p ∙ size-so offset in
+      let within : offset + length (byte ∷ rest) ≤ length e.bytes = omega (arith, size, l) in
+      let nearer : length e.bytes ≤ offset + length (byte ∷ rest) + fuel = omega (arith, h) in
+      one-more offset byte rest p l
+      (copies-from fuel (offset + length (byte ∷ rest)) (piece_at (offset + length (byte ∷ rest))) refl within nearer)
 
 -- both files are opened, the destination is cut, and the copy begins
 abbrev started : Copied → Bool → Bool → Talk

@@ -85,27 +85,27 @@ source-takes src text = asking _ _ _ (copy-closed-takes src.word text _ showing)
 both-take : (src dst : CopyFile) (text : List ℕ) → TalkTakesReplies (close_both src dst text)
 both-take src dst text = asking _ _ _ (copy-closed-takes dst.word text (close_source src) (source-takes src))
 
-got-takes : (src dst : CopyFile) (place : ℕ) (bytes : List ℕ) → RoundTakes (copy_got src dst place bytes)
-got-takes src dst place [] = both-take src dst _
-got-takes src dst place (byte ∷ bytes) = tt
+got-takes : (src dst : CopyFile) (offset : ℕ) (bytes : List ℕ) → RoundTakes (copy_got src dst offset bytes)
+got-takes src dst offset [] = both-take src dst _
+got-takes src dst offset (byte ∷ bytes) = tt
 
-copy-left-takes : (src dst : CopyFile) (place : ℕ) (bytes : List ℕ) → RoundTakes (copy_left src dst place bytes)
-copy-left-takes src dst place [] = if-round (is_chr src.kind) _ _ (both-take src dst _) tt
-copy-left-takes src dst place (byte ∷ bytes) = tt
+copy-left-takes : (src dst : CopyFile) (offset : ℕ) (bytes : List ℕ) → RoundTakes (copy_left src dst offset bytes)
+copy-left-takes src dst offset [] = if-round (is_chr src.kind) _ _ (both-take src dst _) tt
+copy-left-takes src dst offset (byte ∷ bytes) = tt
 
-read-takes : (src dst : CopyFile) (place : ℕ) (reply : Reply) → RoundTakes (copy_read src dst place reply)
-read-takes src dst place (reply.Got bytes) = got-takes src dst place bytes
-read-takes src dst place (reply.Refused errno) = both-take src dst _
-read-takes src dst place _ = showing _
+read-takes : (src dst : CopyFile) (offset : ℕ) (reply : Reply) → RoundTakes (copy_read src dst offset reply)
+read-takes src dst offset (reply.Got bytes) = got-takes src dst offset bytes
+read-takes src dst offset (reply.Refused errno) = both-take src dst _
+read-takes src dst offset _ = showing _
 
-written-takes : (src dst : CopyFile) (place : ℕ) (bytes : List ℕ) (reply : Reply) → RoundTakes (copy_written src dst place bytes reply)
-written-takes src dst place bytes (reply.Count n end) = copy-left-takes src dst _ _
-written-takes src dst place bytes (reply.Refused errno) = both-take src dst _
-written-takes src dst place bytes _ = showing _
+written-takes : (src dst : CopyFile) (offset : ℕ) (bytes : List ℕ) (reply : Reply) → RoundTakes (copy_written src dst offset bytes reply)
+written-takes src dst offset bytes (reply.Count n end) = copy-left-takes src dst _ _
+written-takes src dst offset bytes (reply.Refused errno) = both-take src dst _
+written-takes src dst offset bytes _ = showing _
 
 copy-round-takes : (src dst : CopyFile) (stage : CopyStage) (reply : Reply) → RoundTakes (copy_round src dst stage reply)
-copy-round-takes src dst (Reads place) reply = read-takes src dst place reply
-copy-round-takes src dst (Writes place bytes) reply = written-takes src dst place bytes reply
+copy-round-takes src dst (Reads offset) reply = read-takes src dst offset reply
+copy-round-takes src dst (Writes offset bytes) reply = written-takes src dst offset bytes reply
 
 bytes-take : (src dst : CopyFile) → TalkTakesReplies (copy_bytes src dst)
 bytes-take src dst = turning _ _ (copy_round src dst) (copy-round-takes src dst) _

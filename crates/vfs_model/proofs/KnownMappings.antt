@@ -11,7 +11,7 @@ use Rattle.vfs_model.proofs.KnownOpenFiles.{map-some, no-more, set-cases, then-o
 use Rattle.vfs_model.specs.Chain.{◌>>=◌, ◌>>◌, refuse◌when◌, wanted}
 use Rattle.vfs_model.specs.HeldFiles.{Held, keeps_file}
 use Rattle.vfs_model.specs.MappingCommands.{with_mappings}
-use Rattle.vfs_model.specs.Mappings.{FilePlace, NewMapping, TakenMapping, add_mapping, check_mapping, has_all_mappings, least_free_mapping, mapping, remove_mapping, with_mapping}
+use Rattle.vfs_model.specs.Mappings.{FileOffset, NewMapping, TakenMapping, add_mapping, check_mapping, has_all_mappings, least_free_mapping, mapping, remove_mapping, with_mapping}
 use Rattle.vfs_model.specs.declared.shell_state.ShellState.{ShellState}
 use Rattle.vfs_model.specs.declared.shell_state.Window.{Window}
 
@@ -170,19 +170,19 @@ unfolding remove_mapping
 remove-known k held state number taken r knows =
     taken-one k held state number taken (remove-of state.mappings number taken (mapping state.mappings number) refl r) knows
 
-check-of : (found : Result Window Errno) (number off len : ℕ) (is_write : Bool) (at : FilePlace) →
+check-of : (found : Result Window Errno) (number off len : ℕ) (is_write : Bool) (at : FileOffset) →
     (found >>= λ window. (refuse errno.EACCES when (is_write && not window.writes)) >> ((refuse errno.EFAULT when nat_lt window.len (off + len))
-    >> Ok (let p : FilePlace = record { file = window.file; place = window.off + off } in p))) ≡ Ok at →
+    >> Ok (let p : FileOffset = record { file = window.file; offset = window.off + off } in p))) ≡ Ok at →
     (window : Window) × (found ≡ Ok window) × (at.file ≡ window.file)
 check-of (Err errno) number off len is_write at r = absurd (cc)
 check-of (Ok window) number off len is_write at r =
-    let p : FilePlace = record { file = window.file; place = window.off + off } in
+    let p : FileOffset = record { file = window.file; offset = window.off + off } in
     let last = then-ok (refuse errno.EFAULT when nat_lt window.len (off + len)) (Ok p) at
     (then-ok (refuse errno.EACCES when (is_write && not window.writes)) ((refuse errno.EFAULT when nat_lt window.len (off + len)) >> Ok p) at r) in
     (window, refl, ap (λ x. x.file) (sym (ok-same p at last)))
 
 -- a part of a mapping may be read and written
-pub check-kept : (k : ℕ) (held : Held) (state : ShellState) (number off len : ℕ) (is_write : Bool) (at : FilePlace) →
+pub check-kept : (k : ℕ) (held : Held) (state : ShellState) (number off len : ℕ) (is_write : Bool) (at : FileOffset) →
     Knows k held state None None → check_mapping state.mappings number off len is_write ≡ Ok at → list_any (keeps_file at.file) held.files ≡ true
 unfolding check_mapping
 check-kept k held state number off len is_write at knows = λ r.

@@ -43,7 +43,7 @@ pub a_mapping_outlives_name_and_descriptor : moments opening_shell (
 unfolding shell
 a_mapping_outlives_name_and_descriptor = refl
 
--- a part that begins at the second page; its places are counted from there
+-- a part that begins at the second page; its offsets are counted from there
 pub a_mapping_is_a_part : moments opening_shell (
     posts (codes "open /f rw") (opened 1 kind.Cell ∷ [])
     ∷ posts (codes "mmap 3 4096 12288 rw") (reply.Held (hold 1 2) ∷ [])

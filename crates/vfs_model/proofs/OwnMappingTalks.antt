@@ -86,9 +86,9 @@ module _ (k : ℕ) (b : Behind k) where
   load-asks : (word : List ℕ) (number off len : ℕ) → WordsAsk k b (load_mapped word number off len)
   load-asks word number off len = record {
     from = λ state held knows. checked-own k b (fails (codes "mload") word) (load_checks state.mappings number off len)
-        (λ at. ask (step.Load at.file at.place len) (load_replied word)) state held
+        (λ at. ask (step.Load at.file at.offset len) (load_replied word)) state held
         (λ errno. (showing k b _).from state held knows)
-        (λ at e. asking-plain k b [] (step.Load at.file at.place len) (load_replied word) state held
+        (λ at e. asking-plain k b [] (step.Load at.file at.offset len) (load_replied word) state held
         (record {
           may = check-kept k held state number off len false at knows
               (then-ok (refuse errno.EINVAL when nat_lt READ_MAX len) (check_mapping state.mappings number off len false) at e);
@@ -105,9 +105,9 @@ module _ (k : ℕ) (b : Behind k) where
   store-asks : (word text : List ℕ) (number off : ℕ) → WordsAsk k b (store_mapped word text number off)
   store-asks word text number off = record {
     from = λ state held knows. checked-own k b (fails (codes "mstore") word) (check_mapping state.mappings number off (length text) true)
-        (λ at. ask (step.Store at.file at.place text) (store_replied word)) state held
+        (λ at. ask (step.Store at.file at.offset text) (store_replied word)) state held
         (λ errno. (showing k b _).from state held knows)
-        (λ at e. asking-plain k b [] (step.Store at.file at.place text) (store_replied word) state held
+        (λ at e. asking-plain k b [] (step.Store at.file at.offset text) (store_replied word) state held
         (record { may = check-kept k held state number off (length text) true at knows e; same = λ reply. refl })
         (λ reply. (stored-asks word reply).from state held knows));
   }

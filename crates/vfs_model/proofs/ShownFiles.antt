@@ -39,96 +39,96 @@ module _ (e : Catted) (state : ShellState) (plain : is_chr e.kind ≡ false) (sm
 
   -- what a read of a page gives
   abbrev piece_at : ℕ → List ℕ
-  piece_at place = take (min PAGE_SIZE (length e.bytes - place)) (drop place e.bytes)
+  piece_at offset = take (min PAGE_SIZE (length e.bytes - offset)) (drop offset e.bytes)
 
-  read-count : (place : ℕ) → moved_count here (step.Read e.file place PAGE_SIZE) ≡ min PAGE_SIZE (length e.bytes - place)
+  read-count : (offset : ℕ) → moved_count here (step.Read e.file offset PAGE_SIZE) ≡ min PAGE_SIZE (length e.bytes - offset)
   unfolding file_refusals moved_count
-  read-count place = ap (λ (test : Bool). if is_ok (tested test) then min PAGE_SIZE (length e.bytes - place) else 0) (same-generation e.file)
+  read-count offset = ap (λ (test : Bool). if is_ok (tested test) then min PAGE_SIZE (length e.bytes - offset) else 0) (same-generation e.file)
 
-  pub read-bytes : (place : ℕ) → (file_step here (step.Read e.file place PAGE_SIZE) mark.Clear).reply ≡ reply.Got (piece_at place)
+  pub read-bytes : (offset : ℕ) → (file_step here (step.Read e.file offset PAGE_SIZE) mark.Clear).reply ≡ reply.Got (piece_at offset)
   unfolding file_step file_refusals
-  read-bytes place =
-      ap (λ (test : Bool). (clear_step here (step.Read e.file place PAGE_SIZE) (tested test)).reply) (same-generation e.file)
-      ∙ ap (λ n. reply.Got (take n (drop place e.bytes))) (read-count place)
+  read-bytes offset =
+      ap (λ (test : Bool). (clear_step here (step.Read e.file offset PAGE_SIZE) (tested test)).reply) (same-generation e.file)
+      ∙ ap (λ n. reply.Got (take n (drop offset e.bytes))) (read-count offset)
 
-  pub piece-length : (place : ℕ) → length (piece_at place) ≡ min PAGE_SIZE (length e.bytes - place)
-  piece-length place =
-      let cut = length-take (min PAGE_SIZE (length e.bytes - place)) (drop place e.bytes) in
-      let rest = length-drop place e.bytes in
+  pub piece-length : (offset : ℕ) → length (piece_at offset) ≡ min PAGE_SIZE (length e.bytes - offset)
+  piece-length offset =
+      let cut = length-take (min PAGE_SIZE (length e.bytes - offset)) (drop offset e.bytes) in
+      let rest = length-drop offset e.bytes in
       omega (arith, cut, rest)
 
   abbrev stage : ℕ → List ℕ → CatStage
-  stage place text = record { place = place; text = text }
+  stage offset text = record { offset = offset; text = text }
 
   abbrev closed_with : List ℕ → Talk
   closed_with text = closes (codes "cat") e.word e.hold text (cat_files [])
 
-  got-nothing : (place : ℕ) (text : List ℕ) → cat_got e.word e.hold e.kind (cat_files []) (stage place text) [] ≡ After (closed_with (text ++ []))
-  got-nothing place text =
-      ap (λ (out : Bool). if out then After (closed_with (text ++ [])) else Again (stage (moved_offset place 0) (text ++ []))) (or-true (is_chr e.kind))
+  got-nothing : (offset : ℕ) (text : List ℕ) → cat_got e.word e.hold e.kind (cat_files []) (stage offset text) [] ≡ After (closed_with (text ++ []))
+  got-nothing offset text =
+      ap (λ (out : Bool). if out then After (closed_with (text ++ [])) else Again (stage (moved_offset offset 0) (text ++ []))) (or-true (is_chr e.kind))
 
-  got-more : (place : ℕ) (text : List ℕ) (byte : ℕ) (rest : List ℕ) →
-      cat_got e.word e.hold e.kind (cat_files []) (stage place text) (byte ∷ rest)
-      ≡ Again (stage (moved_offset place (length (byte ∷ rest))) (text ++ byte ∷ rest))
-  got-more place text byte rest =
-      ap (λ (out : Bool). if out then After (closed_with (text ++ byte ∷ rest)) else Again (stage (moved_offset place (length (byte ∷ rest))) (text ++ byte ∷ rest)))
+  got-more : (offset : ℕ) (text : List ℕ) (byte : ℕ) (rest : List ℕ) →
+      cat_got e.word e.hold e.kind (cat_files []) (stage offset text) (byte ∷ rest)
+      ≡ Again (stage (moved_offset offset (length (byte ∷ rest))) (text ++ byte ∷ rest))
+  got-more offset text byte rest =
+      ap (λ (out : Bool). if out then After (closed_with (text ++ byte ∷ rest)) else Again (stage (moved_offset offset (length (byte ∷ rest))) (text ++ byte ∷ rest)))
       (or-false (is_chr e.kind) plain)
 
-  -- how the command goes on from a place
+  -- how the command goes on from an offset
   abbrev reading : CatStage → Talk
   reading spot = ask_in_turn (step.Close e.hold ∷ []) (cat_step e.file) (cat_round e.word e.hold e.kind (cat_files [])) spot
 
-  -- the replies from a place on, and what they lead to
-  record Reads (place : ℕ) : Type 0 where
+  -- the replies from an offset on, and what they lead to
+  record Reads (offset : ℕ) : Type 0 where
     replies : List Reply
-    reads : AreReads here e.file place replies
-    ends : (more : List Reply) → reading (stage place (take place e.bytes)) state (replies ++ more) ≡ closed_with e.bytes state more
+    reads : AreReads here e.file offset replies
+    ends : (more : List Reply) → reading (stage offset (take offset e.bytes)) state (replies ++ more) ≡ closed_with e.bytes state more
 
-  nothing-more : (place : ℕ) → [] ≡ piece_at place → Reads place
-  nothing-more place p =
-      let none : 0 ≡ length (piece_at place) = ap length p in
-      let past : length e.bytes ≤ place = omega (arith, none, piece-length place) in
+  nothing-more : (offset : ℕ) → [] ≡ piece_at offset → Reads offset
+  nothing-more offset p =
+      let none : 0 ≡ length (piece_at offset) = ap length p in
+      let past : length e.bytes ≤ offset = omega (arith, none, piece-length offset) in
       record {
         replies = reply.Got [] ∷ [];
-        reads = (ap reply.Got p ∙ sym (read-bytes place), tt);
+        reads = (ap reply.Got p ∙ sym (read-bytes offset), tt);
         ends = λ more.
-            ap (λ (round : Round CatStage). round_talk (λ spot now left. reading spot state more) round state more) (got-nothing place (take place e.bytes))
-            ∙ ap (λ text. closed_with text state more) (append-nil (take place e.bytes) ∙ take_all place e.bytes past);
+            ap (λ (round : Round CatStage). round_talk (λ spot now left. reading spot state more) round state more) (got-nothing offset (take offset e.bytes))
+            ∙ ap (λ text. closed_with text state more) (append-nil (take offset e.bytes) ∙ take_all offset e.bytes past);
       }
 
-  one-more : (place byte : ℕ) (rest : List ℕ) → byte ∷ rest ≡ piece_at place → place ≤ length e.bytes →
-      Reads (place + length (byte ∷ rest)) → Reads place
-  one-more place byte rest p l later =
+  one-more : (offset byte : ℕ) (rest : List ℕ) → byte ∷ rest ≡ piece_at offset → offset ≤ length e.bytes →
+      Reads (offset + length (byte ∷ rest)) → Reads offset
+  one-more offset byte rest p l later =
       let count : ℕ = length (byte ∷ rest) in
-      let size : count ≡ min PAGE_SIZE (length e.bytes - place) = ap length p ∙ piece-length place in
-      let within : place + count ≤ length e.bytes = omega (arith, size, l) in
-      let there : moved_offset place count ≡ place + count = omega (arith, within, small) in
-      let joined : take place e.bytes ++ byte ∷ rest ≡ take (place + count) e.bytes =
-      ap (λ piece. take place e.bytes ++ piece) (p ∙ ap (λ n. take n (drop place e.bytes)) (sym size)) ∙ sym (take-add place count e.bytes) in
+      let size : count ≡ min PAGE_SIZE (length e.bytes - offset) = ap length p ∙ piece-length offset in
+      let within : offset + count ≤ length e.bytes = omega (arith, size, l) in
+      let there : moved_offset offset count ≡ offset + count = omega (arith, within, small) in
+      let joined : take offset e.bytes ++ byte ∷ rest ≡ take (offset + count) e.bytes =
+      ap (λ piece. take offset e.bytes ++ piece) (p ∙ ap (λ n. take n (drop offset e.bytes)) (sym size)) ∙ sym (take-add offset count e.bytes) in
       record {
         replies = reply.Got (byte ∷ rest) ∷ later.replies;
-        reads = (ap reply.Got p ∙ sym (read-bytes place), later.reads);
+        reads = (ap reply.Got p ∙ sym (read-bytes offset), later.reads);
         ends = λ more.
             let behind : List Reply = later.replies ++ more in
-            ap (λ (round : Round CatStage). round_talk (λ spot now left. reading spot state behind) round state behind) (got-more place (take place e.bytes) byte rest)
+            ap (λ (round : Round CatStage). round_talk (λ spot now left. reading spot state behind) round state behind) (got-more offset (take offset e.bytes) byte rest)
             ∙ ap₂ (λ (spot : ℕ) (text : List ℕ). reading (stage spot text) state behind) there joined
             ∙ later.ends more;
       }
 
-  none-left : (place byte : ℕ) (rest : List ℕ) → byte ∷ rest ≡ piece_at place → length e.bytes ≤ place + 0 → ⊥
-  none-left place byte rest p h =
-      let size : length (byte ∷ rest) ≡ min PAGE_SIZE (length e.bytes - place) = ap length p ∙ piece-length place in
+  none-left : (offset byte : ℕ) (rest : List ℕ) → byte ∷ rest ≡ piece_at offset → length e.bytes ≤ offset + 0 → ⊥
+  none-left offset byte rest p h =
+      let size : length (byte ∷ rest) ≡ min PAGE_SIZE (length e.bytes - offset) = ap length p ∙ piece-length offset in
       omega (arith, size, h)
 
-  reads-from : (fuel place : ℕ) (piece : List ℕ) → piece ≡ piece_at place → place ≤ length e.bytes → length e.bytes ≤ place + fuel → Reads place
-  reads-from fuel place [] p l h = nothing-more place p
-  reads-from zero place (byte ∷ rest) p l h = absurd (none-left place byte rest p h)
-  reads-from (suc fuel) place (byte ∷ rest) p l h =
-      let size : length (byte ∷ rest) ≡ min PAGE_SIZE (length e.bytes - place) = ap length p ∙ piece-length place in
-      let within : place + length (byte ∷ rest) ≤ length e.bytes = omega (arith, size, l) in
-      let nearer : length e.bytes ≤ place + length (byte ∷ rest) + fuel = omega (arith, h) in
-      one-more place byte rest p l
-      (reads-from fuel (place + length (byte ∷ rest)) (piece_at (place + length (byte ∷ rest))) refl within nearer)
+  reads-from : (fuel offset : ℕ) (piece : List ℕ) → piece ≡ piece_at offset → offset ≤ length e.bytes → length e.bytes ≤ offset + fuel → Reads offset
+  reads-from fuel offset [] p l h = nothing-more offset p
+  reads-from zero offset (byte ∷ rest) p l h = absurd (none-left offset byte rest p h)
+  reads-from (suc fuel) offset (byte ∷ rest) p l h =
+      let size : length (byte ∷ rest) ≡ min PAGE_SIZE (length e.bytes - offset) = ap length p ∙ piece-length offset in
+      let within : offset + length (byte ∷ rest) ≤ length e.bytes = omega (arith, size, l) in
+      let nearer : length e.bytes ≤ offset + length (byte ∷ rest) + fuel = omega (arith, h) in
+      one-more offset byte rest p l
+      (reads-from fuel (offset + length (byte ∷ rest)) (piece_at (offset + length (byte ∷ rest))) refl within nearer)
 
   pub cat-shows : CatShows e state
   cat-shows =

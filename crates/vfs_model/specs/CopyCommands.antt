@@ -48,38 +48,38 @@ close_both src dst text =
 abbrev pub copy_fails : CopyFile → CopyFile → List ℕ → Errno → Talk
 copy_fails src dst word errno = close_both src dst (with_error [] (codes "cp") word errno)
 
--- how far `cp` is: at a place of the source, or with bytes that are still to be written at a place
+-- how far `cp` is: at an offset of the source, or with bytes that are still to be written at an offset
 pub data CopyStage : Type 0 where
   Reads : ℕ → CopyStage
   Writes : ℕ → List ℕ → CopyStage
 
 abbrev pub copy_step : CopyFile → CopyFile → CopyStage → Step
-copy_step src dst (Reads place) = step.Read src.file place PAGE_SIZE
-copy_step src dst (Writes place bytes) = step.Write dst.file place bytes
+copy_step src dst (Reads offset) = step.Read src.file offset PAGE_SIZE
+copy_step src dst (Writes offset bytes) = step.Write dst.file offset bytes
 
 -- what was read is written, and nothing is the end
 abbrev pub copy_got : CopyFile → CopyFile → ℕ → List ℕ → Round CopyStage
-copy_got src dst place [] = After (close_both src dst [])
-copy_got src dst place (byte ∷ bytes) = Again (Writes place (byte ∷ bytes))
+copy_got src dst offset [] = After (close_both src dst [])
+copy_got src dst offset (byte ∷ bytes) = Again (Writes offset (byte ∷ bytes))
 
 -- a rest is written on; behind the last byte a character device is not read again
 abbrev pub copy_left : CopyFile → CopyFile → ℕ → List ℕ → Round CopyStage
-copy_left src dst place [] = if is_chr src.kind then After (close_both src dst []) else Again (Reads place)
-copy_left src dst place (byte ∷ bytes) = Again (Writes place (byte ∷ bytes))
+copy_left src dst offset [] = if is_chr src.kind then After (close_both src dst []) else Again (Reads offset)
+copy_left src dst offset (byte ∷ bytes) = Again (Writes offset (byte ∷ bytes))
 
 abbrev pub copy_read : CopyFile → CopyFile → ℕ → Reply → Round CopyStage
-copy_read src dst place (reply.Got bytes) = copy_got src dst place bytes
-copy_read src dst place (reply.Refused errno) = After (copy_fails src dst src.word errno)
-copy_read src dst place _ = After (shows [])
+copy_read src dst offset (reply.Got bytes) = copy_got src dst offset bytes
+copy_read src dst offset (reply.Refused errno) = After (copy_fails src dst src.word errno)
+copy_read src dst offset _ = After (shows [])
 
 abbrev pub copy_written : CopyFile → CopyFile → ℕ → List ℕ → Reply → Round CopyStage
-copy_written src dst place bytes (reply.Count n end) = copy_left src dst (moved_offset place n) (drop n bytes)
-copy_written src dst place bytes (reply.Refused errno) = After (copy_fails src dst dst.word errno)
-copy_written src dst place bytes _ = After (shows [])
+copy_written src dst offset bytes (reply.Count n end) = copy_left src dst (moved_offset offset n) (drop n bytes)
+copy_written src dst offset bytes (reply.Refused errno) = After (copy_fails src dst dst.word errno)
+copy_written src dst offset bytes _ = After (shows [])
 
 abbrev pub copy_round : CopyFile → CopyFile → CopyStage → Reply → Round CopyStage
-copy_round src dst (Reads place) reply = copy_read src dst place reply
-copy_round src dst (Writes place bytes) reply = copy_written src dst place bytes reply
+copy_round src dst (Reads offset) reply = copy_read src dst offset reply
+copy_round src dst (Writes offset bytes) reply = copy_written src dst offset bytes reply
 
 -- all that comes from the source is written to the destination
 abbrev pub copy_bytes : CopyFile → CopyFile → Talk

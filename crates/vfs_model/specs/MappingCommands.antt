@@ -10,7 +10,7 @@ use Rattle.vfs_model.specs.Chain.{◌>>=◌, ◌>>◌, refuse◌when◌}
 use Rattle.vfs_model.specs.CommandText.{bytes_line, fails, line, number_line}
 use Rattle.vfs_model.specs.CommandWords.{four_words, meaning, number_of, one_word, same_word, three_words}
 use Rattle.vfs_model.specs.FolderCommands.{done_or_fails, one_step}
-use Rattle.vfs_model.specs.Mappings.{FilePlace, add_mapping, check_mapping, has_all_mappings, mapping, may_map, remove_mapping}
+use Rattle.vfs_model.specs.Mappings.{FileOffset, add_mapping, check_mapping, has_all_mappings, mapping, may_map, remove_mapping}
 use Rattle.vfs_model.specs.OpenFiles.{open_file}
 use Rattle.vfs_model.specs.Talk.{Talk, ask, ask_holding, changing, checked, shows}
 use Rattle.vfs_model.specs.declared.shell_state.OpenFile.{OpenFile}
@@ -62,7 +62,7 @@ mmap words =
     (λ offset. meaning mmap_form (number_of len) (λ size. meaning mmap_form (is_for_writing access) (map_file word fd offset size))))) words
 
 -- where the part lies that is read
-abbrev pub load_checks : List (Option Window) → ℕ → ℕ → ℕ → Result FilePlace Errno
+abbrev pub load_checks : List (Option Window) → ℕ → ℕ → ℕ → Result FileOffset Errno
 load_checks mappings number off len = do
   refuse errno.EINVAL when nat_lt READ_MAX len
   check_mapping mappings number off len false
@@ -75,7 +75,7 @@ load_replied word _ = shows []
 abbrev pub load_mapped : List ℕ → ℕ → ℕ → ℕ → Talk
 load_mapped word number off len state =
     checked (fails (codes "mload") word) (load_checks state.mappings number off len)
-    (λ at. ask (step.Load at.file at.place len) (load_replied word)) state
+    (λ at. ask (step.Load at.file at.offset len) (load_replied word)) state
 
 abbrev pub mload_form : List ℕ
 mload_form = codes "mload W OFF LEN"
@@ -94,7 +94,7 @@ store_replied word _ = shows []
 abbrev pub store_mapped : List ℕ → List ℕ → ℕ → ℕ → Talk
 store_mapped word text number off state =
     checked (fails (codes "mstore") word) (check_mapping state.mappings number off (length text) true)
-    (λ at. ask (step.Store at.file at.place text) (store_replied word)) state
+    (λ at. ask (step.Store at.file at.offset text) (store_replied word)) state
 
 abbrev pub mstore_form : List ℕ
 mstore_form = codes "mstore W OFF TEXT"

@@ -10,7 +10,7 @@ use Rattle.vfs_base.specs.declared.limits.TheConstants.{OFF_MAX, PAGE_SIZE, WIND
 use Rattle.vfs_model.specs.Chain.{◌>>=◌, ◌>>◌, refuse◌when◌, wanted}
 use Rattle.vfs_model.specs.declared.shell_state.Window.{Window}
 
--- a character device, in which nothing has a place
+-- a character device, in which nothing has an offset
 abbrev pub is_chr : Kind → Bool
 is_chr kind.Chr = true
 is_chr kind.Tmp = false
@@ -59,18 +59,18 @@ add_mapping mappings window = do
   refuse errno.EMFILE when has_all_mappings mappings
   Ok (record { number = least_free_mapping mappings; mappings = with_mapping mappings (least_free_mapping mappings) (Some window) })
 
--- a place in a file
-pub record FilePlace : Type 0 where
+-- an offset in a file
+pub record FileOffset : Type 0 where
   pub file : FileId
-  pub place : ℕ
+  pub offset : ℕ
 
 -- where a part of a mapping lies that is read, or written
-unfoldable pub check_mapping : List (Option Window) → ℕ → ℕ → ℕ → Bool → Result FilePlace Errno
+unfoldable pub check_mapping : List (Option Window) → ℕ → ℕ → ℕ → Bool → Result FileOffset Errno
 check_mapping mappings number off len is_write = do
   window ← mapping mappings number
   refuse errno.EACCES when (is_write && not window.writes)
   refuse errno.EFAULT when nat_lt window.len (off + len)
-  Ok (record { file = window.file; place = window.off + off })
+  Ok (record { file = window.file; offset = window.off + off })
 
 -- a mapping that was taken out, and those that are left
 pub record TakenMapping : Type 0 where

@@ -15,9 +15,9 @@ use Rattle.vfs_model.specs.declared.shell_state.Whence.TheVariants as whence
 abbrev pub place_max : ℕ
 place_max = 2 ^ 63 + 2 ^ 20
 
--- a place, so many bytes on
+-- an offset, so many bytes on
 abbrev pub moved_offset : ℕ → ℕ → ℕ
-moved_offset place count = min (place + count) place_max
+moved_offset offset count = min (offset + count) place_max
 
 -- no descriptor is used
 abbrev pub opening_files : OpenFiles
@@ -101,14 +101,14 @@ whence_offset file whence.Set = 0
 whence_offset file whence.Cur = file.place
 whence_offset file (whence.End size) = size
 
--- the place at an offset from another one
+-- the offset so far from another one, forward or backward
 abbrev pub sought_offset : ℕ → ℤ → Result ℕ Errno
 sought_offset from off = do
   refuse errno.EINVAL when int_lt (pos from +ℤ off) (pos 0)
   refuse errno.EOVERFLOW when int_lt (pos OFF_MAX) (pos from +ℤ off)
   Ok (nat_abs (pos from +ℤ off))
 
--- a place that was sought, and the open files with it
+-- the place of an open file that was sought, and the open files with it
 pub record Sought : Type 0 where
   pub place : ℕ
   pub open_files : OpenFiles

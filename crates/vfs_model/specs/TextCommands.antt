@@ -39,19 +39,19 @@ closed command word text go _ = shows text
 abbrev pub closes : List ℕ → List ℕ → HoldId → List ℕ → (List ℕ → Talk) → Talk
 closes command word hold text go = ask_holding (step.Close hold ∷ []) (step.Close hold) (closed command word text go)
 
--- what `cat` has read: up to which place of the file at hand, and the text of all files so far
+-- what `cat` has read: up to which offset of the file at hand, and the text of all files so far
 pub record CatStage : Type 0 where
-  pub place : ℕ
+  pub offset : ℕ
   pub text : List ℕ
 
 abbrev pub cat_step : FileId → CatStage → Step
-cat_step file stage = step.Read file stage.place PAGE_SIZE
+cat_step file stage = step.Read file stage.offset PAGE_SIZE
 
 abbrev pub cat_got : List ℕ → HoldId → Kind → (List ℕ → Talk) → CatStage → List ℕ → Round CatStage
 cat_got word hold kind go stage bytes =
     if is_read_out kind bytes
     then After (closes (codes "cat") word hold (stage.text ++ bytes) go)
-    else Again (record { place = moved_offset stage.place (length bytes); text = stage.text ++ bytes })
+    else Again (record { offset = moved_offset stage.offset (length bytes); text = stage.text ++ bytes })
 
 abbrev pub cat_round : List ℕ → HoldId → Kind → (List ℕ → Talk) → CatStage → Reply → Round CatStage
 cat_round word hold kind go stage (reply.Got bytes) = cat_got word hold kind go stage bytes
@@ -61,7 +61,7 @@ cat_round word hold kind go stage _ = After (shows stage.text)
 
 abbrev pub cat_opened : List ℕ → List ℕ → (List ℕ → Talk) → Reply → Talk
 cat_opened text word go (reply.Opened hold file kind) =
-    ask_in_turn (step.Close hold ∷ []) (cat_step file) (cat_round word hold kind go) (record { place = 0; text = text })
+    ask_in_turn (step.Close hold ∷ []) (cat_step file) (cat_round word hold kind go) (record { offset = 0; text = text })
 cat_opened text word go (reply.Refused errno) = fails_after text (codes "cat") word errno
 cat_opened text word go _ = shows text
 

@@ -26,7 +26,7 @@ pub struct OpenFiles {
     pub files: List<Option<OpenFile>>,
 }
 
-/// A mapping: a part of a file that is read and written by its place in the part.
+/// A mapping: a part of a file that is read and written by offsets in the part.
 #[derive(Clone, Copy, Debug)]
 pub struct Window {
     /// The reference that keeps the file.

@@ -10,10 +10,10 @@ pub returns-in-Read : goal.returns-in-Read
 returns-in-Read c =
     subst (λ self. IfOk c.copy_read.result (λ command. (state : ShellState) → (later : List Reply) → copy_talk command state later ≡ copy_talk self state (c.args.reply.now ∷ later)))
     (sym c.in-Read.is)
-    (copy_fed c.in-Read.src c.in-Read.dst (Reads c.in-Read.place) c.args.reply.now c.copy_read.result c.copy_read.ensures)
+    (copy_fed c.in-Read.src c.in-Read.dst (Reads c.in-Read.offset) c.args.reply.now c.copy_read.result c.copy_read.ensures)
 
 pub returns-in-Write : goal.returns-in-Write
 returns-in-Write c =
     subst (λ self. IfOk c.copy_written.result (λ command. (state : ShellState) → (later : List Reply) → copy_talk command state later ≡ copy_talk self state (c.args.reply.now ∷ later)))
     (sym c.in-Write.is)
-    (copy_fed c.in-Write.src c.in-Write.dst (Writes c.in-Write.place c.in-Write.bytes) c.args.reply.now c.copy_written.result c.copy_written.ensures)
+    (copy_fed c.in-Write.src c.in-Write.dst (Writes c.in-Write.offset c.in-Write.bytes) c.args.reply.now c.copy_written.result c.copy_written.ensures)
