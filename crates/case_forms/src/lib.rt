@@ -5,6 +5,7 @@
 #![tactic(auto)]
 
 mod case_fault;
+mod difference;
 mod escapes;
 mod reply_texts;
 mod reply_words;
@@ -13,6 +14,7 @@ mod step_texts;
 mod step_words;
 
 pub use case_fault::CaseFault;
+pub use difference::push_difference;
 pub use escapes::{push_escaped, push_line, push_shown, push_text};
 pub use reply_texts::push_reply;
 pub use reply_words::{kind_of, name_of, path_of, reply_of};

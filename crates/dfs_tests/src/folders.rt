@@ -1,10 +1,9 @@
 //! The folders of cases, one for each form, and what is told of each case.
 
-use crate::compare::push_difference;
 use crate::examples::play_example;
 use crate::runs::play_runs;
 use crate::schedules::play_schedules;
-use case_forms::CaseFault;
+use case_forms::{CaseFault, push_difference};
 use case_tables::{play_dialogue, play_table};
 use case_worlds::play_tables_of_steps;
 use std::fs;
@@ -37,7 +36,8 @@ pub fn play_all<R: Files + AllocGlobal + Eprint + Clone + Drop>(
     play_folder(rt, "steps", Form::Steps, tally)?;
     play_folder(rt, "dialogues", Form::Dialogues, tally)?;
     play_folder(rt, "tables", Form::Tables, tally)?;
-    play_examples(rt, tally)
+    play_examples(rt, ".msh", "shell", tally)?;
+    play_examples(rt, ".dfs", "replay", tally)
 }
 
 // The files of the folder with this ending, sorted.
@@ -96,20 +96,19 @@ fn play(rt: &impl AllocGlobal, form: Form, text: &str, made: &mut Bytes) -> Resu
     }
 }
 
+// Plays the examples with this ending in this mode. No example is a fault.
 fn play_examples<R: Files + AllocGlobal + Eprint + Clone + Drop>(
     rt: &R,
+    ending: &str,
+    mode: &str,
     tally: &mut Tally,
 ) -> Result<(), CaseFault> {
-    let shells = files_of(rt, "examples", ".msh")?;
-    let replays = files_of(rt, "examples", ".dfs")?;
-    if shells.is_empty() || replays.is_empty() {
+    let files = files_of(rt, "examples", ending)?;
+    if files.is_empty() {
         return Err(CaseFault::Unread);
     }
-    for file in shells.iter() {
-        play_pair(rt, file.as_str(), "shell", tally)?;
-    }
-    for file in replays.iter() {
-        play_pair(rt, file.as_str(), "replay", tally)?;
+    for file in files.iter() {
+        play_pair(rt, file.as_str(), mode, tally)?;
     }
     Ok(())
 }
@@ -126,10 +125,20 @@ fn play_pair(
     };
     let out = format!(in rt.alloc(); "{front}.out")?;
     let script = fs::read_to_string(rt, file)?;
-    let text = fs::read_to_string(rt, out.as_str())?;
+    play_script(rt, mode, script.as_str(), out.as_str(), tally)
+}
+
+fn play_script(
+    rt: &(impl Files + AllocGlobal + Eprint),
+    mode: &str,
+    script: &str,
+    out: &str,
+    tally: &mut Tally,
+) -> Result<(), CaseFault> {
+    let text = fs::read_to_string(rt, out)?;
     let mut made = Bytes::new(rt.alloc());
-    let played = play_example(rt.alloc(), mode, script.as_str(), &mut made);
-    tell(rt, out.as_str(), text.as_str(), &made, played, tally)
+    let played = play_example(rt.alloc(), mode, script, &mut made);
+    tell(rt, out, text.as_str(), &made, played, tally)
 }
 
 // Prints whether the case is as it should be, and counts it.
@@ -143,11 +152,20 @@ fn tell(
 ) -> Result<(), CaseFault> {
     let mut difference = Bytes::new(rt.alloc());
     push_difference(&mut difference, text.as_bytes(), made.as_slice(), played)?;
+    count(rt, file, difference.as_slice(), tally)
+}
+
+fn count(
+    rt: &impl Eprint,
+    file: &str,
+    difference: &[u8],
+    tally: &mut Tally,
+) -> Result<(), CaseFault> {
     if difference.is_empty() {
         tally.good = tally.good.saturating_add(1);
         return Ok(rt.eprintln(format_args!("{file}"))?);
     }
     tally.wrong = tally.wrong.saturating_add(1);
-    let difference = str::from_utf8(difference.as_slice())?;
+    let difference = str::from_utf8(difference)?;
     Ok(rt.eprintln(format_args!("WRONG {file}: {difference}"))?)
 }

@@ -4,7 +4,6 @@
 //! on standard error; docs/DEVELOPING.md tells the forms. Nothing is promised but safety.
 #![tactic(auto)]
 
-mod compare;
 mod examples;
 mod folders;
 mod plainly;

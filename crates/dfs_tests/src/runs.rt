@@ -29,7 +29,6 @@ fn play_parts(alloc: Global, text: &str, made: &mut Bytes, run: &mut Run) -> Res
 }
 
 /// A run: its words, its input in pieces and the calls that fail; and then how it ended.
-#[derive(Drop)]
 pub struct Run {
     words: Vec<String>,
     pieces: Vec<Bytes>,
@@ -40,13 +39,48 @@ pub struct Run {
 }
 
 // How a run ended, as texts.
-#[derive(Drop)]
 struct Told {
     status: Bytes,
     note: Bytes,
     steps: Bytes,
     schedule: Bytes,
     output: Bytes,
+}
+
+// By hand, so that whoever lets a run go makes one call.
+impl Drop for Run {
+    fn drop(self) {
+        let Run {
+            words,
+            pieces,
+            reads,
+            writes,
+            is_played: _,
+            told,
+        } = self;
+        drop(words);
+        drop(pieces);
+        drop(reads);
+        drop(writes);
+        drop(told);
+    }
+}
+
+impl Drop for Told {
+    fn drop(self) {
+        let Told {
+            status,
+            note,
+            steps,
+            schedule,
+            output,
+        } = self;
+        drop(status);
+        drop(note);
+        drop(steps);
+        drop(schedule);
+        drop(output);
+    }
 }
 
 impl Told {
@@ -160,11 +194,15 @@ impl Run {
             return Ok(());
         }
         let plain = played_plainly(alloc, script.as_slice(), self.told.schedule.as_slice())?;
-        if plain.as_slice() == self.told.output.as_slice() {
+        self.tell_plain(plain.as_slice(), made)
+    }
+
+    fn tell_plain(&self, plain: &[u8], made: &mut Bytes) -> Result<(), CaseFault> {
+        if plain == self.told.output.as_slice() {
             return Ok(());
         }
         made.extend_from_slice(b"the plain run shows\n")?;
-        Ok(push_shown(made, plain.as_slice())?)
+        Ok(push_shown(made, plain)?)
     }
 
     fn run(&mut self, alloc: Global) -> Result<(), CaseFault> {

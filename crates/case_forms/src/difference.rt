@@ -1,6 +1,7 @@
 //! The first line at which a case's file is not what was made of it.
 
-use case_forms::{CaseFault, push_escaped};
+use crate::case_fault::CaseFault;
+use crate::escapes::push_escaped;
 use vfs_base::{Bytes, NoMemory, push_number};
 
 /// Puts the first difference at the end; nothing where there is none and the case was played to its end.
