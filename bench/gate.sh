@@ -18,7 +18,7 @@ checks_below() {
             for (pid in line) {
                 if (!match(line[pid], /--crate-name [a-z0-9_]+/) || !is_below(pid)) continue
                 crate = substr(line[pid], RSTART + 13, RLENGTH - 13)
-                kind = line[pid] ~ / --test/ ? "tests" : line[pid] ~ /rattle check / ? "edits" : "proof"
+                kind = line[pid] ~ / --test/ ? "tests" : line[pid] ~ /rattle check / && line[pid] !~ / -o / ? "edits" : "proof"
                 print pid, seconds[pid], crate, kind
             }
         }'
