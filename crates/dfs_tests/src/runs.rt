@@ -29,6 +29,7 @@ fn play_parts(alloc: Global, text: &str, made: &mut Bytes, run: &mut Run) -> Res
 }
 
 /// A run: its words, its input in pieces and the calls that fail; and then how it ended.
+#[derive(Drop)]
 pub struct Run {
     words: Vec<String>,
     pieces: Vec<Bytes>,
@@ -39,48 +40,13 @@ pub struct Run {
 }
 
 // How a run ended, as texts.
+#[derive(Drop)]
 struct Told {
     status: Bytes,
     note: Bytes,
     steps: Bytes,
     schedule: Bytes,
     output: Bytes,
-}
-
-// By hand, so that whoever lets a run go makes one call.
-impl Drop for Run {
-    fn drop(self) {
-        let Run {
-            words,
-            pieces,
-            reads,
-            writes,
-            is_played: _,
-            told,
-        } = self;
-        drop(words);
-        drop(pieces);
-        drop(reads);
-        drop(writes);
-        drop(told);
-    }
-}
-
-impl Drop for Told {
-    fn drop(self) {
-        let Told {
-            status,
-            note,
-            steps,
-            schedule,
-            output,
-        } = self;
-        drop(status);
-        drop(note);
-        drop(steps);
-        drop(schedule);
-        drop(output);
-    }
 }
 
 impl Told {
