@@ -1,8 +1,8 @@
 #!/bin/sh
 # Tries the wrong bodies of the repository, those of the gate (must-fail/*.edit) and those kept beside it (must-fail/*.md), on a
 # copy: the prover must refuse each. It is no part of the gate, which tries the first alone; with --beside it tries only the
-# second. Further words are names of crates; none means all. What the gate has proved on this machine is not proved again. Its last
-# line is `N refused, M not`.
+# second. Further words are names of crates, with which those below them are tried too; none means all. What the gate has proved on
+# this machine is not proved again. Its last line is `N refused, M not`, of the crates named.
 cd "$(dirname "$0")/.." || exit 2
 beside=
 case $1 in
