@@ -1,15 +1,12 @@
 -- The calls to an object in memory: numbered from 1, they fail where their number is listed.
-use Rattle.std.specs.Prelude.{ℕ, ◌+◌, ◌-◌, ◌^◌, min, List, Contains, Result, is_err, if◌then◌else◌}
+use Rattle.std.specs.Prelude.{ℕ, List, Contains, Result}
+use Rattle.vfs_outside.specs.CallCount.{next_count, faults_behind}
 
 -- the numbers of the calls that fail, how many calls were made, and how many failed
 pub record Calls : Type 0 where
   pub failing : List ℕ
   pub made : ℕ
   pub faults : ℕ
-
--- one more, where a u64 holds it
-abbrev pub next_count : ℕ → ℕ
-next_count n = min (n + 1) (2 ^ 64 - 1)
 
 -- the number of the next call is listed
 abbrev pub NextFails : Calls → Type 0
@@ -20,7 +17,7 @@ abbrev pub with_call : {T E : Type 0} → Calls → Result T E → Calls
 with_call calls result = record {
   failing = calls.failing;
   made = next_count calls.made;
-  faults = if is_err result then next_count calls.faults else calls.faults;
+  faults = faults_behind calls.faults result;
 }
 
 -- no call made so far, and these will fail

@@ -1,5 +1,14 @@
+pub mod AnyBlock
+pub mod Block
+pub mod CallCount
 pub mod Causes
+pub mod Chars
 pub mod CountedStream
+pub mod Devices
 pub mod FailingCalls
+pub mod FileBlock
+pub mod MemBlock
+pub mod MemChars
 pub mod MemSink
 pub mod MemSource
+pub mod Volume

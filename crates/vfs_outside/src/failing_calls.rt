@@ -1,6 +1,7 @@
 ghost use Rattle.std.specs.Prelude.{◌≡◌, ◌≤◌, ◌↔◌, IsErr};
 ghost use Rattle.vfs_outside.specs.Causes.{HasCause};
-ghost use Rattle.vfs_outside.specs.FailingCalls.{NextFails, first_calls, next_count, with_call};
+ghost use Rattle.vfs_outside.specs.CallCount.{next_count};
+ghost use Rattle.vfs_outside.specs.FailingCalls.{NextFails, first_calls, with_call};
 
 use crate::failed::Failed;
 use std::marker::Model;

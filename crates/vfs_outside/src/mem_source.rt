@@ -1,8 +1,9 @@
-ghost use Rattle.std.specs.Prelude.{◌≡◌, ◌++◌, [], ◌+◌, ◌-◌, ◌<◌, ◌≤◌, ◌↔◌, length, drop, take, min, IfOk, IsErr, OnErr};
+ghost use Rattle.std.specs.Prelude.{◌≡◌, ◌++◌, [], ◌<◌, ◌≤◌, ◌↔◌, length, drop, take, IfOk, IsErr, OnErr};
 ghost use Rattle.std.specs.List.{concat};
 ghost use Rattle.vfs_outside.specs.Causes.{HasCause};
 ghost use Rattle.vfs_outside.specs.FailingCalls.{NextFails, first_calls, with_call};
 
+use crate::copying::copy_from;
 use crate::failed::Failed;
 use crate::failing_calls::FailingCalls;
 use crate::source::Source;
@@ -93,15 +94,4 @@ fn turn(piece: &mut Bytes, at: &mut usize, later: &mut VecDeque<Bytes>)
         *piece = next;
         *at = 0;
     }
-}
-
-// Copies the bytes from place `at` on to the front of `out`, as many as fit.
-fn copy_from(bytes: &[u8], at: usize, out: &mut [u8]) -> usize
-    requires { at ≤ length bytes.now }
-    ensures count { result ≡ min (length bytes.now - at) (length out.old) }
-    ensures copied { drop at bytes.now ≡ take result out.new ++ drop (at + result) bytes.now }
-{
-    let n = out.len().min(bytes.len() - at);
-    out[..n].copy_from_slice(&bytes[at..at + n]);
-    n
 }

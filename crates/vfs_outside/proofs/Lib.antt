@@ -1,0 +1,4 @@
+pub mod MemBlockLemmas
+pub mod NameLemmas
+pub mod SoundLemmas
+pub mod VolumeLemmas
