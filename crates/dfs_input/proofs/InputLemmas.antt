@@ -5,6 +5,7 @@ use Rattle.std.specs.Io.KnownBytes.{Consumes, IsAtEnd}
 use Rattle.vfs_base.specs.declared.deck.Deck.{Deck}
 use Rattle.vfs_model.specs.Deck.{DeckDraft, deck_from, deck_of, empty_deck, or_bad_line, with_raw_line}
 use Rattle.vfs_model.specs.Script.{is_bad_line, line_text, onto_first, raw_lines}
+use Rattle.dfs_input.specs.Known.{IsInput}
 
 -- how many bytes the lines have
 abbrev size_of : List (List ℕ) → ℕ
@@ -137,3 +138,9 @@ script_read (Some input) (Some rest) bytes taken end =
       | inl past ↦ deck_of-front bytes rest (ltb-true 16777216 (length bytes) past)
       | inr within ↦ ap (λ r. deck_of (bytes ++ r)) (end (ltb-false 16777216 (length bytes) within)) ∙ ap deck_of (append-nil bytes)
     ]
+
+-- some input, which is the told one where it is told, means what the bytes that were read mean
+pub known_script : (told : Option (List ℕ)) (bytes : List ℕ) → IfSome told (λ input. deck_of input ≡ deck_of bytes)
+    → (input : List ℕ) × IsInput told input × (deck_of input ≡ deck_of bytes)
+known_script None bytes same = (bytes, tt, refl)
+known_script (Some known) bytes same = (known, refl, same)

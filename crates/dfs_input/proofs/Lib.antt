@@ -1,3 +1,4 @@
 pub mod InputLemmas
+pub mod KnownLemmas
 pub mod LineReaderLemmas
 pub mod ScriptLemmas

@@ -8,7 +8,8 @@ use Rattle.std.specs.Io.KnownBytes.{Consumes, Keeps, prepend_known}
 use Rattle.vfs_model.specs.Script.{raw_lines, without_return, is_bad_line, line_text}
 use Rattle.dfs_input.specs.declared.line_reader.ReadStop.{ReadStop}
 use Rattle.dfs_input.specs.declared.line_reader.ReadStop.TheVariants.{NoMemory, BadLine, Failed}
-use Rattle.dfs_input.specs.LineReader.{HasNoFeed, Fills, HoldsAll, EndsLine, LastLine, ahead, TakesLine, ReadsLine, StopsInLine, StopsReading, StopsPastForm, StopsPastSize, StopsAtBadLine, StopsAtLastLine, ReaderState, BeginsBad, is_past_form}
+use Rattle.dfs_input.specs.LineReader.{HasNoFeed, Fills, HoldsAll, EndsLine, LastLine, ahead, TakesLine, ReadsLine, StopsInLine, StopsReading, StopsPastForm, StopsPastSize, StopsAtBadLine, StopsAtLastLine, ReaderState, BeginsBad, BeginsBadLine, is_past_form}
+use Rattle.dfs_input.proofs.KnownLemmas.{consumed_input}
 use Rattle.dfs_input.proofs.ScriptLemmas.{BeginsBad-past, BeginsBad-feed, BeginsBad-unended, raw_lines-feed, raw_lines-unended, is_ended-feed, whole_lines-unended, line_text-feed, line_text-unended, without_return-length}
 
 -- fewer bytes of a part of a list
@@ -88,23 +89,30 @@ Consumes-front old new left front is same =
 
 -- the first line is one that a line feed ends
 pub TakesLine-feed : (before after : Option (List ℕ)) (held : List ℕ) → HasNoFeed held → Consumes before after (held ++ 10 ∷ []) → TakesLine before after (held ++ 10 ∷ [])
-TakesLine-feed None after held none consumes = tt
-TakesLine-feed (Some bytes) None held none consumes = consumes
-TakesLine-feed (Some bytes) (Some rest) held none consumes =
-    (consumes, ap raw_lines (consumes ∙ append_assoc held (10 ∷ []) rest) ∙ raw_lines-feed held rest none)
+TakesLine-feed before after held none consumes = λ rest is.
+    (consumed_input before after (held ++ 10 ∷ []) consumes rest is, ap raw_lines (append_assoc held (10 ∷ []) rest) ∙ raw_lines-feed held rest none)
 
 -- the first line is the last one, without a line feed
 pub TakesLine-last : (before : Option (List ℕ)) (held : List ℕ) → HasNoFeed held → 0 < length held → Consumes before (Some []) held → TakesLine before (Some []) held
-TakesLine-last None held none some consumes = tt
-TakesLine-last (Some bytes) held none some consumes =
-    (consumes, ap raw_lines (consumes ∙ append-nil held) ∙ raw_lines-unended held none some)
+TakesLine-last before held none some consumes = λ rest is.
+    let gone : [] ≡ rest = is in
+    let alone : raw_lines (held ++ []) ≡ held ∷ [] = ap raw_lines (append-nil held) ∙ raw_lines-unended held none some in
+    (consumed_input before (Some []) held consumes rest is, subst (λ (l : List ℕ). raw_lines (held ++ l) ≡ held ∷ raw_lines l) gone alone)
 
--- what holds of some bytes, whatever follows, holds of the known bytes that begin with these
-pub IfSome-begins : (P : List ℕ → Type 0) (before left : Option (List ℕ)) (held front : List ℕ) → Consumes before (prepend_known front left) held
-    → ((more : List ℕ) → P ((held ++ front) ++ more)) → IfSome before P
-IfSome-begins P None left held front consumes all = tt
-IfSome-begins P (Some bytes) None held front consumes all = absurd consumes
-IfSome-begins P (Some bytes) (Some more) held front consumes all = subst P (append_assoc held front more ∙ sym consumes) (all more)
+-- a source that tells what it has still tells it behind the line
+pub TakesLine-told : (bytes raw : List ℕ) → TakesLine (Some bytes) None raw → ⊥
+TakesLine-told bytes raw takes =
+    let none : bytes ≡ raw ++ [] = (takes [] tt).0 in
+    let one : bytes ≡ raw ++ 0 ∷ [] = (takes (0 ∷ []) tt).0 in
+    omega (arith, ap length (sym none ∙ one), length-append raw [], length-append raw (0 ∷ []))
+
+-- bytes that came, and whatever follows them, begin with a bad line
+pub BeginsBadLine-front : (size : ℕ) (told left : Option (List ℕ)) (held front : List ℕ) → Consumes told (prepend_known front left) held
+    → ((more : List ℕ) → BeginsBad size ((held ++ front) ++ more)) → BeginsBadLine size told
+BeginsBadLine-front size None left held front consumes begins = record { bytes = (held ++ front) ++ []; input = tt; begins = begins [] }
+BeginsBadLine-front size (Some known) None held front consumes begins = absurd consumes
+BeginsBadLine-front size (Some known) (Some more) held front consumes begins =
+    record { bytes = known; input = refl; begins = subst (BeginsBad size) (append_assoc held front more ∙ sym consumes) (begins more) }
 
 pub Holding-filled : {first now mid : ReaderState} {before left after : Option (List ℕ)} {held : List ℕ} → Holding first now before left held → Fills now mid left after → Holding first mid before after held
 Holding-filled {first} {now} {mid} {before} {left} {after} {held} holding fills = record {
@@ -177,7 +185,7 @@ module _ {first now : ReaderState} {before after : Option (List ℕ)} {held : Li
   pub StopsReading-bad : (new : ReaderState) (stop : ReadStop) → StopsAtBadLine now.size (held ++ now.buffered) stop → StopsReading first new before after stop
   StopsReading-bad new NoMemory stops = tt
   StopsReading-bad new BadLine stops =
-      IfSome-begins (BeginsBad first.size) (ahead first before) (if now.at_end then Some [] else after) held now.buffered holding.consumes (rw (sym holding.size) stops)
+      BeginsBadLine-front first.size (ahead first before) (if now.at_end then Some [] else after) held now.buffered holding.consumes (rw (sym holding.size) stops)
   StopsReading-bad new Failed stops = absurd stops
 
 -- the answer at the end of the input

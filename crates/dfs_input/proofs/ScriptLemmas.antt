@@ -1,5 +1,5 @@
 -- Lemmas on the lines of an input.
-use Rattle.std.proofs.Common.{◌≡◌, ◌≢◌, ℕ, suc, ◌+◌, ◌-◌, ◌<◌, ◌≤◌, ◌==◌, nat_lt, true, false, Some, List, [], ◌∷◌, ◌++◌, length, map, filter, All, refl, ap, ◌∙◌, arith, append-nil, append_assoc, length-append, length-take, ne_eqb, lt-ltb, le-ltb, ltb-true, ◌⊎◌, inl, inr, ⊎_elim}
+use Rattle.std.proofs.Common.{◌≡◌, ◌≢◌, ℕ, suc, ◌+◌, ◌-◌, ◌<◌, ◌≤◌, ◌==◌, nat_lt, true, false, Some, List, [], ◌∷◌, ◌++◌, length, map, filter, All, refl, sym, ap, ◌∙◌, arith, append-nil, append_assoc, length-append, length-take, ne_eqb, lt-ltb, le-ltb, ltb-true, ◌⊎◌, inl, inr, ⊎_elim}
 use Rattle.std.specs.List.{concat}
 use Rattle.std.proofs.lemmas.Bool.{both_ways, or_cases, or_left, or_right, cases_Bool, cond_both, cond-true}
 use Rattle.std.proofs.lemmas.List.Elements.{All-head, All-tail}
@@ -162,11 +162,24 @@ raw_lines-single (byte ∷ next ∷ raw) more single ended =
           ]
     ]
 
+-- it is the first of the lines that a line feed ends
+pub ended_lines-front : (raw more : List ℕ) → raw_lines raw ≡ raw ∷ [] → is_ended raw ≡ true
+    → filter is_ended (raw_lines (raw ++ more)) ≡ raw ∷ filter is_ended (raw_lines more)
+ended_lines-front raw more single ended =
+    let later = filter is_ended (raw_lines more) in
+    ap (filter is_ended) (raw_lines-single raw more single ended) ∙ cond-true (is_ended raw) (raw ∷ later) later ended
+
 -- its text is the first of the whole lines
 pub whole_lines-front : (raw more : List ℕ) → raw_lines raw ≡ raw ∷ [] → is_ended raw ≡ true → whole_lines (raw ++ more) ≡ line_text raw ∷ whole_lines more
-whole_lines-front raw more single ended =
-    let later = filter is_ended (raw_lines more) in
-    ap (λ lines. map line_text (filter is_ended lines)) (raw_lines-single raw more single ended) ∙ ap (map line_text) (cond-true (is_ended raw) (raw ∷ later) later ended)
+whole_lines-front raw more single ended = ap (map line_text) (ended_lines-front raw more single ended)
+
+-- where no line is whole, a line feed ends none
+pub ended_lines-none : (partial : List ℕ) → whole_lines partial ≡ [] → filter is_ended (raw_lines partial) ≡ []
+ended_lines-none partial none =
+    elim (cases_lines (filter is_ended (raw_lines partial))) [
+      | inl empty ↦ empty
+      | inr (line, rest, is) ↦ let some : line_text line ∷ map line_text rest ≡ [] = sym (ap (map line_text) is) ∙ none in cc
+    ]
 
 -- one line, which a line feed ends
 pub record IsWholeLine (raw : List ℕ) : Type 0 where

@@ -1,11 +1,12 @@
 -- What a reader of lines holds between two lines, and what the reading of a line does.
-use Rattle.std.specs.Prelude.{◌≡◌, ◌≢◌, ℕ, ◌+◌, ◌<◌, ◌≤◌, ◌||◌, Bool, true, false, nat_lt, List, [], ◌∷◌, ◌++◌, length, take, drop, Option, None, Some, Result, Ok, Err, IfSome, ⊤, if◌then◌else◌}
+use Rattle.std.specs.Prelude.{◌≡◌, ◌≢◌, ℕ, ◌+◌, ◌<◌, ◌≤◌, ◌||◌, Bool, true, false, nat_lt, List, [], ◌∷◌, ◌++◌, length, take, drop, Option, Some, Result, Ok, Err, ⊤, if◌then◌else◌}
 use Rattle.std.specs.List.{All}
 use Rattle.std.specs.Io.KnownBytes.{prepend_known, Consumes, Keeps, IsAtEnd}
 use Rattle.vfs_model.specs.Script.{raw_lines, without_return, is_ended, line_text, whole_lines, is_bad_line}
 use Rattle.vfs_outside.specs.Causes.{Rose}
 use Rattle.dfs_input.specs.declared.line_reader.ReadStop.{ReadStop}
 use Rattle.dfs_input.specs.declared.line_reader.ReadStop.TheVariants.{NoMemory, BadLine, Failed}
+use Rattle.dfs_input.specs.Known.{IsInput}
 
 -- the lines read whole so far, the bytes of these with their ends, the bytes that came and belong to later lines, and whether the end was seen
 pub record ReaderState : Type 0 where
@@ -18,11 +19,10 @@ pub record ReaderState : Type 0 where
 abbrev pub ahead : ReaderState → Option (List ℕ) → Option (List ℕ)
 ahead reader left = prepend_known reader.buffered (if reader.at_end then Some [] else left)
 
--- where the bytes to come are known before and after: this is the first line of those before, and the later ones are the lines of those after
+-- whatever comes behind, this is the first line of what was to come, and the later ones are the lines of what comes
 abbrev pub TakesLine : Option (List ℕ) → Option (List ℕ) → List ℕ → Type 0
-TakesLine None after raw = ⊤
-TakesLine (Some bytes) None raw = ⊥
-TakesLine (Some bytes) (Some rest) raw = (bytes ≡ raw ++ rest) × (raw_lines bytes ≡ raw ∷ raw_lines rest)
+TakesLine before after raw =
+    (rest : List ℕ) → IsInput after rest → IsInput before (raw ++ rest) × (raw_lines (raw ++ rest) ≡ raw ∷ raw_lines rest)
 
 -- a line in the form was read whole, and this is its text; the source had `before` left, and has `after`
 pub record ReadsLine (old new : ReaderState) (before after : Option (List ℕ)) (line : List ℕ) : Type 0 where
@@ -50,6 +50,12 @@ pub record BeginsBad (size : ℕ) (bytes : List ℕ) : Type 0 where
   pub lines : raw_lines bytes ≡ raw ∷ raws
   pub bad : is_bad_line size raw ≡ true
 
+-- bytes that may have been to come, after that many others, begin with a line outside the form: those that were told, where they were
+pub record BeginsBadLine (size : ℕ) (told : Option (List ℕ)) : Type 0 where
+  pub bytes : List ℕ
+  pub input : IsInput told bytes
+  pub begins : BeginsBad size bytes
+
 -- these first bytes of a line put it outside the form, whatever follows them
 abbrev pub is_past_form : ℕ → List ℕ → Bool
 is_past_form size held = nat_lt 1024 (length (without_return held)) || nat_lt 16777216 (size + length held)
@@ -66,7 +72,7 @@ pub record StopsInLine (old new : ReaderState) (before after : Option (List ℕ)
 -- why no line was read: the next one is outside the form, or the source failed before it came whole
 abbrev pub StopsReading : ReaderState → ReaderState → Option (List ℕ) → Option (List ℕ) → ReadStop → Type 0
 StopsReading old new before after NoMemory = ⊤
-StopsReading old new before after BadLine = IfSome (ahead old before) (BeginsBad old.size)
+StopsReading old new before after BadLine = BeginsBadLine old.size (ahead old before)
 StopsReading old new before after Failed = StopsInLine old new before after
 
 -- the source's count of faults rose exactly where the source failed

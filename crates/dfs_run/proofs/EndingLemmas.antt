@@ -1,258 +1,196 @@
 -- A run of the shell ends as its serving ended.
-use Rattle.std.proofs.Common.{◌≡◌, ℕ, true, false, inl, inr, Option, Some, None, IfSome, is_some, if◌then◌else◌, List, [], ◌++◌, ◌≤◌, length, map, take, refl, sym, ap, ◌∙◌, subst}
-use Rattle.std.specs.Prelude.{IsSome}
+use Rattle.std.proofs.Common.{◌≡◌, ℕ, arith, true, false, Option, Some, None, List, [], ◌++◌, map, take, refl, sym, ◌∙◌, subst}
+use Rattle.std.specs.List.{concat}
+use Rattle.std.specs.Prelude.{IfNone}
 use Rattle.std.specs.Io.KnownBytes.{Appends}
-use Rattle.std.proofs.lemmas.List.{take-append-le}
 use Rattle.std.proofs.KnownBytes.{Appends-nil}
-use Rattle.vfs_base.specs.declared.describe.Describe.{Describe}
 use Rattle.vfs_base.specs.declared.entry.Entry.{Entry}
+use Rattle.vfs_model.specs.Deck.{shell_deck}
+use Rattle.vfs_model.specs.FaultCounts.{ByDevice}
+use Rattle.vfs_model.specs.Leaving.{is_leaving}
+use Rattle.vfs_model.specs.Script.{line_text, raw_lines}
 use Rattle.vfs_model.specs.Schedule.{schedule_line}
-use Rattle.vfs_model.specs.Script.{line_text}
 use Rattle.vfs_model.specs.Session.{session_run}
-use Rattle.vfs_model.specs.Transcript.{transcript}
+use Rattle.vfs_model.specs.Transcript.{shown}
 use Rattle.vfs_model.specs.Turns.{follows_script}
-use Rattle.vfs_outside.specs.Causes.{Rose}
 use Rattle.dfs_input.specs.LineReader.{ReaderState}
-use Rattle.dfs_words.specs.declared.mode.Job.TheVariants as job
+use Rattle.dfs_run.proofs.HeadlineLemmas.{ends-at-bad-line, begun-input, ends-at-read-fault, ends-well, front-of, front-unended, front-whole, served-end, transcript-open}
+use Rattle.dfs_run.proofs.ServingLemmas.{is_supposed, served_posts, supposed}
+use Rattle.dfs_run.proofs.StandingLemmas.{TakesEnd, closes_lines, lacks_end}
+use Rattle.dfs_run.proofs.Unstarved.{before-unstarved}
+use Rattle.dfs_run.specs.Causes.{note_of}
+use Rattle.dfs_run.specs.Ending.{Closes, ClosesFor, EndsFor, HasFront, KeepsSteps, LeavesOpen, ShellEnds, StopsFor, WritesLine}
+use Rattle.dfs_run.specs.Run.{Streams, run_for}
+use Rattle.dfs_run.specs.Serving.{Posts, moment_of, opening_moment}
+use Rattle.dfs_run.specs.Standing.{StandsBehind, with_lines}
+use Rattle.dfs_run.specs.Stopping.{ServesAll, Stops}
+use Rattle.dfs_run.specs.declared.line_stop.LineStop.{LineStop}
+use Rattle.dfs_run.specs.declared.line_stop.LineStop.TheVariants as stop
 use Rattle.dfs_run.specs.declared.report.FaultNote.{FaultNote}
 use Rattle.dfs_run.specs.declared.report.FaultNote.TheVariants as fault
-use Rattle.dfs_run.specs.Ending.{Closes, Ends, ClosesSchedule, FailsWriting, KeepsReason, LeavesOpen, LosesEnd, StopsReading, StopsWith, WritesEnd, WritesEndFront, WritesRest}
-use Rattle.dfs_run.specs.Report.{status_of}
-use Rattle.dfs_run.specs.Headline.{EndsByForm, ShowsFirstLines, is_closed}
-use Rattle.dfs_run.specs.Serving.{Moment, moment_of, opening_moment, Serves}
-use Rattle.script_stage.specs.Scenes.{Scene}
-use Rattle.dfs_run.specs.Standing.{StandsBehind}
-use Rattle.dfs_run.specs.Stopping.{HasReason, MeetsBadLine, MeetsReadFault, ServesAll, Stops}
-use Rattle.dfs_run.proofs.HeadlineLemmas.{front_unended, front_whole, served_open, ends_well, ends_in_part, ends_at_bad_line, ends_at_read_fault}
-
--- a stage that is a moment's stands where the moment's does
-stands_now : (start stage : Scene) (describe : Describe) (left before : Option (List ℕ)) (now : Moment) (p : Serves (opening_moment start left before) now)
-    → stage ≡ now.stage → StandsBehind start describe [] [] → StandsBehind stage describe (map line_text p.raws) p.text
-stands_now start stage describe left before now p e h =
-    subst (λ s. StandsBehind s describe (map line_text p.raws) p.text) (sym e) (p.stands describe [] [] h)
-
--- a run that want of memory kept from its end
-pub ends_open : (start scene : Scene) (describe : Describe) (left before mid sink rest : Option (List ℕ)) (steps : List Entry) (why : FaultNote)
-    → StandsBehind start describe [] [] → Stops (opening_moment start left before) scene mid rest why → sink ≡ mid → LosesEnd why scene steps
-    → IfSome left (λ input. ShowsFirstLines false input describe steps before sink)
-ends_open start scene describe left before mid sink rest steps fault.NoMemory h s w e =
-    subst (λ w. IfSome left (λ input. ShowsFirstLines false input describe steps before w)) (sym w)
-    (front_unended start scene describe left before mid steps false s (e describe (map line_text s.raws) s.text (s.comes describe [] [] h)))
-ends_open start scene describe left before mid sink rest steps fault.Usage h s w e = absurd s
-ends_open start scene describe left before mid sink rest steps (fault.BadDeck line) h s w e =
-    served_open start describe left before sink steps s.now s.serves (w ∙ s.written)
-    (e describe (map line_text s.serves.raws) s.serves.text (stands_now start scene describe left before s.now s.serves s.stage h))
-ends_open start scene describe left before mid sink rest steps fault.ReadFault h s w e =
-    served_open start describe left before sink steps s.now s.serves (w ∙ s.written)
-    (e describe (map line_text s.serves.raws) s.serves.text (stands_now start scene describe left before s.now s.serves s.stage h))
-ends_open start scene describe left before mid sink rest steps fault.WriteFault h s w e =
-    subst (λ w. IfSome left (λ input. ShowsFirstLines false input describe steps before w)) (sym w)
-    (front_unended start scene describe left before mid steps true s (e describe (map line_text s.raws) s.text (s.comes describe [] [] h)))
-
--- the rest was written of the moment's stage
-rest_now : (scene : Scene) (now : Moment) (steps : List Entry) (mid sink : Option (List ℕ)) → scene ≡ now.stage → mid ≡ now.written
-    → WritesRest scene steps mid sink → WritesRest now.stage steps now.written sink
-rest_now scene now steps mid sink e w c =
-    subst (λ m. WritesRest now.stage steps m sink) w (subst (λ s. WritesRest s steps mid sink) e c)
-
--- or a front of it
-front_now : (scene : Scene) (now : Moment) (steps : List Entry) (mid sink : Option (List ℕ)) → scene ≡ now.stage → mid ≡ now.written
-    → WritesEndFront scene steps mid sink → WritesEndFront now.stage steps now.written sink
-front_now scene now steps mid sink e w c =
-    subst (λ m. WritesEndFront now.stage steps m sink) w (subst (λ s. WritesEndFront s steps mid sink) e c)
-
--- a run in which writing failed at last
-ends_unwritten : (start scene : Scene) (describe : Describe) (left before mid sink rest : Option (List ℕ)) (steps : List Entry) (why : FaultNote)
-    → StandsBehind start describe [] [] → Stops (opening_moment start left before) scene mid rest why → FailsWriting why scene steps mid sink
-    → IfSome left (λ input. ShowsFirstLines true input describe steps before sink)
-ends_unwritten start scene describe left before mid sink rest steps fault.NoMemory h s e = absurd e
-ends_unwritten start scene describe left before mid sink rest steps fault.Usage h s e = absurd s
-ends_unwritten start scene describe left before mid sink rest steps (fault.BadDeck line) h s e =
-    ends_in_part start describe left before sink steps s.now h s.serves (front_now scene s.now steps mid sink s.stage s.written e)
-ends_unwritten start scene describe left before mid sink rest steps fault.ReadFault h s e =
-    ends_in_part start describe left before sink steps s.now h s.serves (front_now scene s.now steps mid sink s.stage s.written e)
-ends_unwritten start scene describe left before mid sink rest steps fault.WriteFault h s e =
-    subst (λ w. IfSome left (λ input. ShowsFirstLines true input describe steps before w)) (sym e.0)
-    (front_whole start scene describe left before mid steps e.1.0 s (e.1.1 describe (map line_text s.raws) s.text (s.comes describe [] [] h)))
-
--- a run that stopped early
-pub ends_stopped : (start scene : Scene) (describe : Describe) (left before mid sink rest : Option (List ℕ)) (steps : List Entry) (why result : FaultNote)
-    → StandsBehind start describe [] [] → Stops (opening_moment start left before) scene mid rest why → StopsWith why scene steps mid sink result
-    → Ends describe left rest steps before sink (Some result)
-ends_stopped start scene describe left before mid sink rest steps why fault.NoMemory h s e =
-    ends_open start scene describe left before mid sink rest steps why h s e.0 e.1
-ends_stopped start scene describe left before mid sink rest steps why fault.Usage h s e =
-    subst (Stops (opening_moment start left before) scene mid rest) (sym e.0) s
-ends_stopped start scene describe left before mid sink rest steps why (fault.BadDeck line) h s e =
-    let m : MeetsBadLine (opening_moment start left before) scene mid line = subst (Stops (opening_moment start left before) scene mid rest) (sym e.0) s in
-    ends_at_bad_line start describe left before sink steps line m.now h m.serves m.line m.bad (rest_now scene m.now steps mid sink m.stage m.written e.1)
-ends_stopped start scene describe left before mid sink rest steps why fault.ReadFault h s e =
-    let m : MeetsReadFault (opening_moment start left before) scene mid rest = subst (Stops (opening_moment start left before) scene mid rest) (sym e.0) s in
-    ends_at_read_fault start describe left before sink rest steps m.now h m.serves m.unended m.breaks (rest_now scene m.now steps mid sink m.stage m.written e.1)
-ends_stopped start scene describe left before mid sink rest steps why fault.WriteFault h s e =
-    ends_unwritten start scene describe left before mid sink rest steps why h s e
-
--- all was written of the moment's stage
-end_now : (scene : Scene) (now : Moment) (steps : List Entry) (mid sink : Option (List ℕ)) → scene ≡ now.stage → mid ≡ now.written
-    → WritesEnd scene steps mid sink → WritesEnd now.stage steps now.written sink
-end_now scene now steps mid sink e w c =
-    subst (λ m. WritesEnd now.stage steps m sink) w (subst (λ s. WritesEnd s steps mid sink) e c)
-
--- a front of the rest is one of the rest and the schedule's line
-front_written : (scene : Scene) (steps : List Entry) (before now : Option (List ℕ)) (rest : List ℕ) (count : ℕ) → Closes scene steps rest
-    → count ≤ length rest → Appends before now (take count rest) → WritesEndFront scene steps before now
-front_written scene steps before now rest count c h w = record {
-  rest = rest;
-  count = count;
-  closes = c;
-  written = subst (Appends before now) (sym (take-append-le count rest (schedule_line steps) h)) w;
-}
-
--- a run that came to the end of its lines
-pub ends_closed : (start scene : Scene) (describe : Describe) (left before mid sink rest : Option (List ℕ)) (steps : List Entry) (result : Option FaultNote)
-    → StandsBehind start describe [] [] → ServesAll (opening_moment start left before) scene mid → ClosesSchedule scene steps mid sink result
-    → Ends describe left rest steps before sink result
-ends_closed start scene describe left before mid sink rest steps None h s c =
-    ends_well start describe left before sink steps s.now h s.serves s.over (end_now scene s.now steps mid sink s.stage s.written c)
-ends_closed start scene describe left before mid sink rest steps (Some fault.NoMemory) h s c =
-    served_open start describe left before sink steps s.now s.serves (c.1 ∙ s.written)
-    (c.0 describe (map line_text s.serves.raws) s.serves.text (stands_now start scene describe left before s.now s.serves s.stage h))
-ends_closed start scene describe left before mid sink rest steps (Some fault.Usage) h s c = absurd c
-ends_closed start scene describe left before mid sink rest steps (Some (fault.BadDeck line)) h s c = absurd c
-ends_closed start scene describe left before mid sink rest steps (Some fault.ReadFault) h s c = absurd c
-ends_closed start scene describe left before mid sink rest steps (Some fault.WriteFault) h s c =
-    ends_in_part start describe left before sink steps s.now h s.serves (front_now scene s.now steps mid sink s.stage s.written c)
-
--- a run that could not begin
-pub ends_unbegun : (describe : Describe) (left rest before : Option (List ℕ)) → Ends describe left rest [] before before (Some fault.NoMemory)
-unfolding follows_script transcript session_run
-ends_unbegun describe None rest before = tt
-ends_unbegun describe (Some input) rest before = record {
-  count = 0;
-  front = record { text = []; size = 0; transcript = record { follows = refl; taken = refl; ends = refl }; written = Appends-nil before };
-}
+use Rattle.script_stage.proofs.Counting.{no-entry, taken-none}
+use Rattle.script_stage.specs.Scenes.{Scene, Script, TellsMore, told_entries}
 
 -- a new reader and a new stage stand before the first line
 pub opening_moment-of : (reader : ReaderState) (stage : Scene) (left sink : Option (List ℕ))
     → reader ≡ record { number = 0; size = 0; buffered = []; at_end = false } → moment_of reader stage left sink ≡ opening_moment stage left sink
 opening_moment-of reader stage left sink r = rw r refl
 
--- where nothing failed a run ends by the form of its input, or for want of memory
-pub ends_by_form : (describe : Describe) (old left : Option (List ℕ)) (steps : List Entry) (before now : Option (List ℕ)) (why : Option FaultNote)
-    (status reads_before reads_now writes_before writes_now : ℕ) → status ≡ status_of why → Ends describe old left steps before now why
-    → IfSome why (HasReason reads_before reads_now writes_before writes_now)
-    → (Rose reads_before reads_now → ⊥) → (Rose writes_before writes_now → ⊥) → IfSome old (λ input. EndsByForm job.Shell input status)
-ends_by_form describe None left steps before now why status a b c d s e h r w = tt
-ends_by_form describe (Some input) left steps before now None status a b c d s e h r w =
-    inr (s ∙ ap (λ found. if is_some found then 3 else 0) (sym e.form))
-ends_by_form describe (Some input) left steps before now (Some fault.NoMemory) status a b c d s e h r w = inl s
-ends_by_form describe (Some input) left steps before now (Some fault.Usage) status a b c d s e h r w = absurd e
-ends_by_form describe (Some input) left steps before now (Some (fault.BadDeck line)) status a b c d s e h r w =
-    inr (s ∙ ap (λ found. if is_some found then 3 else 0) (sym e.form))
-ends_by_form describe (Some input) left steps before now (Some fault.ReadFault) status a b c d s e h r w = absurd (r h)
-ends_by_form describe (Some input) left steps before now (Some fault.WriteFault) status a b c d s e h r w = absurd (w h)
+-- a run that ends so for what it is told to have ended for
+told-so : (base : Script) (io : Streams) (steps : List Entry) (last : ByDevice) (why told : Option FaultNote) → told ≡ why →
+    EndsFor why (run_for base io steps last why) → ShellEnds (run_for base io steps last told)
+told-so base io steps last why told e p = subst (λ f. ShellEnds (run_for base io steps last f)) (sym e) p
 
--- however a run ends, a front of the transcript is shown
-pub ends_front : (describe : Describe) (old left : Option (List ℕ)) (steps : List Entry) (before now : Option (List ℕ)) (why : Option FaultNote)
-    → Ends describe old left steps before now why → IfSome old (λ input. ShowsFirstLines (is_closed why) input describe steps before now)
-ends_front describe None left steps before now why e = tt
-ends_front describe (Some input) left steps before now None e = e.front
-ends_front describe (Some input) left steps before now (Some fault.NoMemory) e = e
-ends_front describe (Some input) left steps before now (Some fault.Usage) e = absurd e
-ends_front describe (Some input) left steps before now (Some (fault.BadDeck line)) e = e.front
-ends_front describe (Some input) left steps before now (Some fault.ReadFault) e = e.front
-ends_front describe (Some input) left steps before now (Some fault.WriteFault) e = e
+module _ (base : Script) (io : Streams) (start : Scene) (stands : StandsBehind start base [] []) where
+  -- want of memory while lines are served
+  pub ends-kept : (scene : Scene) (steps : List Entry) (last : ByDevice) (told : Option FaultNote) → told ≡ Some fault.NoMemory →
+      Posts (opening_moment start io.given io.before) scene io.now false → KeepsSteps scene steps last → ShellEnds (run_for base io steps last told)
+  ends-kept scene steps last told e p keeps =
+      told-so base io steps last (Some fault.NoMemory) told e
+      (front-unended base io steps last (Some fault.NoMemory) start scene false p stands (keeps base (map line_text p.raws) p.text (p.comes base [] [] stands)))
 
--- what is done behind the last line, seen in its report
-pub closes_so : (scene : Scene) (steps same : List Entry) (before now : Option (List ℕ)) (why told : Option FaultNote) → same ≡ steps → told ≡ why
-    → ClosesSchedule scene steps before now why → ClosesSchedule scene same before now told
-closes_so scene steps same before now why told s w p =
-    subst (λ l. ClosesSchedule scene l before now told) (sym s) (subst (ClosesSchedule scene steps before now) (sym w) p)
+  -- lines that were posted, and want of memory kept the run from its end
+  posted-open : (scene : Scene) (steps : List Entry) (last : ByDevice) (p : Posts (opening_moment start io.given io.before) scene io.now true) → LeavesOpen scene steps last →
+      ShellEnds (run_for base io steps last (Some fault.NoMemory))
+  posted-open scene steps last p leaves =
+      front-unended base io steps last (Some fault.NoMemory) start scene true p stands (leaves base (map line_text p.raws) p.text (p.comes base [] [] stands))
 
--- what is done after stopping early, seen in its report
-pub stops_so : (why : FaultNote) (scene : Scene) (steps same : List Entry) (before now : Option (List ℕ)) (found : FaultNote) (told : Option FaultNote)
-    → same ≡ steps → told ≡ Some found → StopsWith why scene steps before now found → IfSome told (StopsWith why scene same before now)
-stops_so why scene steps same before now found told s w p =
-    subst (λ t. IfSome t (StopsWith why scene same before now)) (sym w) (subst (λ l. StopsWith why scene l before now found) (sym s) p)
+  -- serving stopped at a line or in one, or at the sink
+  ends-stopped : (scene : Scene) (steps : List Entry) (last : ByDevice) (why : LineStop) (told : Option FaultNote) →
+      Stops (opening_moment start io.given io.before) scene io.now io.rest why → StopsFor (note_of why) told scene steps last →
+      (why ≡ stop.NoMemory → ⊥) → ShellEnds (run_for base io steps last told)
+  ends-stopped scene steps last why None s h other = absurd h
+  ends-stopped scene steps last stop.NoMemory told s h other = absurd (other refl)
+  ends-stopped scene steps last (stop.BadLine line) (Some fault.NoMemory) s h other =
+      posted-open scene steps last (served_posts (opening_moment start io.given io.before) s.now io.now scene s.written s.stage s.serves) h
+  ends-stopped scene steps last stop.ReadFault (Some fault.NoMemory) s h other =
+      posted-open scene steps last (served_posts (opening_moment start io.given io.before) s.now io.now scene s.written s.stage s.serves) h
+  ends-stopped scene steps last stop.WriteFault (Some fault.NoMemory) s h other = posted-open scene steps last s h
+  ends-stopped scene steps last (stop.BadLine line) (Some (fault.BadDeck place)) s h other =
+      let same : place ≡ line = bad-same place line h.0 in
+      subst (λ n. ShellEnds (run_for base io steps last (Some (fault.BadDeck n)))) (sym same)
+      (ends-at-bad-line base io steps last (Some (fault.BadDeck line)) start s.now s.serves stands line s.line s.bad s.written
+      (subst (λ x. Closes x steps last) s.stage h.1 base (map line_text s.serves.raws) s.serves.text (s.serves.stands base [] [] stands)))
+    where
+      bad-same : (place line : ℕ) → fault.BadDeck place ≡ fault.BadDeck line → place ≡ line
+      bad-same place line e = cc
+  ends-stopped scene steps last stop.ReadFault (Some fault.ReadFault) s h other =
+      ends-at-read-fault base io steps last (Some fault.ReadFault) start s.now s.serves stands s.unended s.breaks s.written
+      (subst (λ x. Closes x steps last) s.stage h.1 base (map line_text s.serves.raws) s.serves.text (s.serves.stands base [] [] stands))
+  ends-stopped scene steps last stop.WriteFault (Some fault.WriteFault) s h other =
+      front-whole base io steps last (Some fault.WriteFault) start scene s stands (h.1 base (map line_text s.raws) s.text (s.comes base [] [] stands))
+  ends-stopped scene steps last (stop.BadLine line) (Some told) s h other = let e = h.0 in absurd (cc)
+  ends-stopped scene steps last stop.ReadFault (Some told) s h other = let e = h.0 in absurd (cc)
+  ends-stopped scene steps last stop.WriteFault (Some told) s h other = let e = h.0 in absurd (cc)
 
--- want of memory keeps a stage that stopped reading from its end
-pub loses_end : (why : FaultNote) (scene : Scene) (steps : List Entry) → StopsReading why → LeavesOpen scene steps → LosesEnd why scene steps
-loses_end fault.NoMemory scene steps r p = absurd r
-loses_end fault.Usage scene steps r p = p
-loses_end (fault.BadDeck line) scene steps r p = p
-loses_end fault.ReadFault scene steps r p = p
-loses_end fault.WriteFault scene steps r p = absurd r
+  pub stopped-ends : (scene : Scene) (steps : List Entry) (last : ByDevice) (why : LineStop) (told : Option FaultNote) →
+      Stops (opening_moment start io.given io.before) scene io.now io.rest why → StopsFor (note_of why) told scene steps last →
+      (why ≡ stop.NoMemory → ⊥) → ShellEnds (run_for base io steps last told)
+  stopped-ends scene steps last why told s h other = ends-stopped scene steps last why told s h other
 
--- the rest of the blocks was written, and the reason is the one that there was
-pub rest_stops : (why : FaultNote) (scene : Scene) (steps : List Entry) (before now : Option (List ℕ)) → StopsReading why
-    → WritesRest scene steps before now → StopsWith why scene steps before now why
-rest_stops fault.NoMemory scene steps before now r p = absurd r
-rest_stops fault.Usage scene steps before now r p = (refl, p)
-rest_stops (fault.BadDeck line) scene steps before now r p = (refl, p)
-rest_stops fault.ReadFault scene steps before now r p = (refl, p)
-rest_stops fault.WriteFault scene steps before now r p = absurd r
+  -- all lines were served, and the schedule's line was written, or not
+  pub ends-closed : (scene : Scene) (mid : Option (List ℕ)) (steps : List Entry) (last : ByDevice) (told : Option FaultNote) →
+      ServesAll (opening_moment start io.given io.before) scene mid → ClosesFor told scene steps last mid io.now → ShellEnds (run_for base io steps last told)
+  ends-closed scene mid steps last None s h =
+      ends-well base io steps last None start s.now s.serves stands s.over
+      (subst (λ x. Closes x steps last) s.stage h.closes base (map line_text s.serves.raws) s.serves.text (s.serves.stands base [] [] stands))
+      (subst (λ o. Appends o io.now (schedule_line steps)) s.written h.written)
+  ends-closed scene mid steps last (Some fault.NoMemory) s h =
+      posted-open scene steps last (served_posts (opening_moment start io.given io.before) s.now io.now scene (h.1 ∙ s.written) s.stage s.serves) h.0
+  ends-closed scene mid steps last (Some fault.WriteFault) s h = (
+    concat s.serves.raws ++ supposed s.now.ahead,
+    begun-input base io steps last (Some fault.WriteFault) start s.now s.serves stands (supposed s.now.ahead) (is_supposed s.now.ahead),
+    served-end base io steps last (Some fault.WriteFault) start s.now s.serves stands (supposed s.now.ahead) (is_supposed s.now.ahead) h.count
+        (subst (λ x. Closes x steps last) s.stage h.closes base (map line_text s.serves.raws) s.serves.text (s.serves.stands base [] [] stands))
+        (subst (λ o. Appends o io.now (take h.count (schedule_line steps))) s.written h.written),
+  )
+  ends-closed scene mid steps last (Some fault.Usage) s h = absurd h
+  ends-closed scene mid steps last (Some (fault.BadDeck line)) s h = absurd h
+  ends-closed scene mid steps last (Some fault.ReadFault) s h = absurd h
+  ends-closed scene mid steps last (Some (fault.DeviceFault device)) s h = absurd h
 
--- the rest of the blocks could not be written
-pub rest_unwritten : (why : FaultNote) (scene : Scene) (steps : List Entry) (before now : Option (List ℕ)) (rest : List ℕ) (count : ℕ) → StopsReading why
-    → Closes scene steps rest → count ≤ length rest → Appends before now (take count rest) → StopsWith why scene steps before now fault.WriteFault
-rest_unwritten fault.NoMemory scene steps before now rest count r c h w = absurd r
-rest_unwritten fault.Usage scene steps before now rest count r c h w = front_written scene steps before now rest count c h w
-rest_unwritten (fault.BadDeck line) scene steps before now rest count r c h w = front_written scene steps before now rest count c h w
-rest_unwritten fault.ReadFault scene steps before now rest count r c h w = front_written scene steps before now rest count c h w
-rest_unwritten fault.WriteFault scene steps before now rest count r c h w = absurd r
-
--- the same reason, of a stage that stopped reading
-pub keeps_same : (why : FaultNote) (before now : ℕ) → StopsReading why → now ≡ before → KeepsReason why before now why
-keeps_same fault.NoMemory before now r e = absurd r
-keeps_same fault.Usage before now r e = (refl, e)
-keeps_same (fault.BadDeck line) before now r e = (refl, e)
-keeps_same fault.ReadFault before now r e = (refl, e)
-keeps_same fault.WriteFault before now r e = absurd r
-
--- the reason of a run that stopped early has its rise
-pub keeps_reason : (why told : FaultNote) (source_before source_now sink_before sink_mid sink_now : ℕ)
-    → HasReason source_before source_now sink_before sink_mid why → (StopsReading why → sink_mid ≡ sink_before)
-    → KeepsReason why sink_mid sink_now told → HasReason source_before source_now sink_before sink_now told
-keeps_reason why fault.NoMemory a b c d e h calm k = tt
-keeps_reason why fault.Usage a b c d e h calm k = subst (HasReason a b c d) (sym k.0) h
-keeps_reason why (fault.BadDeck line) a b c d e h calm k = tt
-keeps_reason why fault.ReadFault a b c d e h calm k = subst (HasReason a b c d) (sym k.0) h
-keeps_reason why fault.WriteFault a b c d e h calm (inl k) =
-    subst (λ count. Rose c count) (sym k.1) (subst (HasReason a b c d) (sym k.0) h)
-keeps_reason why fault.WriteFault a b c d e h calm (inr k) = subst (λ count. Rose count e) (calm k.0) k.1
-
--- the end of a run, seen in its report
-pub ends_so : (describe : Describe) (old left : Option (List ℕ)) (steps same : List Entry) (before now : Option (List ℕ)) (why told : Option FaultNote)
-    → same ≡ steps → told ≡ why → Ends describe old left steps before now why → Ends describe old left same before now told
-ends_so describe old left steps same before now why told s w p =
-    subst (λ l. Ends describe old left l before now told) (sym s) (subst (Ends describe old left steps before now) (sym w) p)
-
--- a run that stopped early, for a reason that its report has
-pub ends_stopped_so : (start scene : Scene) (describe : Describe) (left before mid sink rest : Option (List ℕ)) (steps : List Entry) (why : FaultNote)
-    (told : Option FaultNote) → IsSome told → StandsBehind start describe [] [] → Stops (opening_moment start left before) scene mid rest why
-    → IfSome told (StopsWith why scene steps mid sink) → Ends describe left rest steps before sink told
-ends_stopped_so start scene describe left before mid sink rest steps why None some h s e = absurd (cc)
-ends_stopped_so start scene describe left before mid sink rest steps why (Some result) some h s e =
-    ends_stopped start scene describe left before mid sink rest steps why result h s e
-
--- the report's reason has its rise
-pub keeps_so : (why : FaultNote) (told : Option FaultNote) (source_before source_now sink_before sink_mid sink_now : ℕ)
-    → HasReason source_before source_now sink_before sink_mid why → (StopsReading why → sink_mid ≡ sink_before)
-    → IfSome told (KeepsReason why sink_mid sink_now) → IfSome told (HasReason source_before source_now sink_before sink_now)
-keeps_so why None a b c d e h calm k = tt
-keeps_so why (Some told) a b c d e h calm k = keeps_reason why told a b c d e h calm k
-
--- the rest of the blocks and the schedule's line were written
-pub end_written : (scene : Scene) (steps : List Entry) (before now : Option (List ℕ)) (rest text : List ℕ) → Closes scene steps rest
-    → text ≡ rest ++ schedule_line steps → Appends before now text → ClosesSchedule scene steps before now None
-end_written scene steps before now rest text c e w = record { rest = rest; closes = c; written = subst (Appends before now) e w }
-
--- or a front of these
-pub end_unwritten : (scene : Scene) (steps : List Entry) (before now : Option (List ℕ)) (rest text : List ℕ) (count : ℕ) → Closes scene steps rest
-    → text ≡ rest ++ schedule_line steps → Appends before now (take count text) → ClosesSchedule scene steps before now (Some fault.WriteFault)
-end_unwritten scene steps before now rest text count c e w = record {
-  rest = rest;
-  count = count;
-  closes = c;
-  written = subst (λ t. Appends before now (take count t)) e w;
+-- no line was posted, and no step taken
+none-front : (base : Script) → HasFront base [] [] base.counted []
+unfolding follows_script shown session_run
+none-front base = record {
+  later = [];
+  follows = refl;
+  taken = refl;
+  unended = refl;
+  taken_on = taken-none (with_lines base []) base.counted refl;
+  unstarved = before-unstarved (shell_deck []) base.describe [] (no-entry (shell_deck []) base.describe (λ s asked entry. is_leaving (shell_deck []) s entry.who ≡ false));
+  before = no-entry (shell_deck []) base.describe (λ s asked entry. is_leaving (shell_deck []) s entry.who ≡ false);
 }
+
+-- a run that could not begin
+pub ends_unbegun : (base : Script) (io : Streams) (steps : List Entry) (told : Option FaultNote) → steps ≡ [] → told ≡ Some fault.NoMemory → io.now ≡ io.before →
+    ShellEnds (run_for base io steps base.counted told)
+ends_unbegun base io steps told none is same =
+    told-so base io steps base.counted (Some fault.NoMemory) told is
+    (subst (λ l. EndsFor (Some fault.NoMemory) (run_for base io l base.counted (Some fault.NoMemory))) (sym none) (
+      supposed io.given,
+      is_supposed io.given,
+      front-of base io [] base.counted (Some fault.NoMemory) false (supposed io.given) [] (raw_lines (supposed io.given)) (none-front base).later 0 refl
+          (transcript-open base io [] base.counted (Some fault.NoMemory) [] [] (none-front base))
+          (subst (λ now. Appends io.before now []) (sym same) (Appends-nil io.before)) (λ s taken. omega arith),
+    ))
+
+-- what is done behind the end
+pub closes_so : (old mid : Scene) (steps : List Entry) (last : ByDevice) (before now : Option (List ℕ)) (told : Option FaultNote) → TakesEnd old mid →
+    (old.leaves_at ≡ None → TellsMore old mid) → last ≡ mid.view.faults → WritesLine told mid steps before now → ClosesFor told old steps last before now
+closes_so old mid steps last before now None closes tells = λ e h. record {
+  closes = subst (λ l. Closes old l last) (sym h.0) (subst (Closes old mid.schedule) (sym e) (closes_lines old mid closes tells));
+  written = subst (λ l. Appends before now (schedule_line l)) (sym h.0) h.1;
+}
+closes_so old mid steps last before now (Some fault.NoMemory) closes tells = λ e h.
+    (subst (λ l. LeavesOpen old l last) (sym h.0) (subst (LeavesOpen old (told_entries mid)) (sym e) (lacks_end old mid closes tells)), h.1)
+closes_so old mid steps last before now (Some fault.WriteFault) closes tells = λ e h. record {
+  count = h.1;
+  closes = subst (λ l. Closes old l last) (sym h.0) (subst (Closes old mid.schedule) (sym e) (closes_lines old mid closes tells));
+  written = subst (λ l. Appends before now (take h.1 (schedule_line l))) (sym h.0) h.2;
+}
+closes_so old mid steps last before now (Some fault.Usage) closes tells = λ e h. absurd h
+closes_so old mid steps last before now (Some (fault.BadDeck line)) closes tells = λ e h. absurd h
+closes_so old mid steps last before now (Some fault.ReadFault) closes tells = λ e h. absurd h
+closes_so old mid steps last before now (Some (fault.DeviceFault device)) closes tells = λ e h. absurd h
+
+-- a run that stopped early, and took its end
+pub stops_closed : (why : LineStop) (old mid : Scene) (steps : List Entry) (last : ByDevice) (told : Option FaultNote) → (why ≡ stop.NoMemory → ⊥) → TakesEnd old mid →
+    (old.leaves_at ≡ None → TellsMore old mid) → steps ≡ mid.schedule → last ≡ mid.view.faults → told ≡ Some (note_of why) → StopsFor (note_of why) told old steps last
+stops_closed why old mid steps last told other = λ closes tells same e is.
+    subst (λ t. StopsFor (note_of why) t old steps last) (sym is) (closed why other
+    (subst (λ l. Closes old l last) (sym same) (subst (Closes old mid.schedule) (sym e) (closes_lines old mid closes tells))))
+  where
+    closed : (why : LineStop) → (why ≡ stop.NoMemory → ⊥) → Closes old steps last → StopsFor (note_of why) (Some (note_of why)) old steps last
+    closed stop.NoMemory other c = absurd (other refl)
+    closed (stop.BadLine line) other c = (refl, c)
+    closed stop.ReadFault other c = (refl, c)
+    closed stop.WriteFault other c = (refl, c)
+
+-- a run that stopped early, and want of memory kept it from its end
+pub stops_open : (why : FaultNote) (old : Scene) (steps told_steps : List Entry) (last : ByDevice) (told : Option FaultNote) → LeavesOpen old told_steps last → steps ≡ told_steps →
+    told ≡ Some fault.NoMemory → StopsFor why told old steps last
+stops_open why old steps told_steps last told leaves same is =
+    subst (λ t. StopsFor why t old steps last) (sym is) (subst (λ l. LeavesOpen old l last) (sym same) leaves)
+
+-- want of memory kept a run from its end, and nothing was written
+pub closes_open : (old : Scene) (steps told_steps : List Entry) (last : ByDevice) (before : Option (List ℕ)) (told : Option FaultNote) → LeavesOpen old told_steps last →
+    steps ≡ told_steps → told ≡ Some fault.NoMemory → ClosesFor told old steps last before before
+closes_open old steps told_steps last before told leaves same is =
+    subst (λ t. ClosesFor t old steps last before before) (sym is) (subst (λ l. LeavesOpen old l last) (sym same) leaves, refl)
+
+-- a run that stopped early has a reason
+pub stopped_over : (why : FaultNote) (told : Option FaultNote) (scene : Scene) (steps : List Entry) (last : ByDevice) (P : Type 0) → StopsFor why told scene steps last → IfNone told P
+stopped_over why None scene steps last P h = absurd h
+stopped_over why (Some told) scene steps last P h = tt
+
+-- and it is the one for which it stopped, or want of memory
+pub stopped_cause : (why : FaultNote) (told : Option FaultNote) (scene : Scene) (steps : List Entry) (last : ByDevice) (P : Option FaultNote → Type 0) → P (Some fault.NoMemory) →
+    P (Some why) → StopsFor why told scene steps last → P told
+stopped_cause why None scene steps last P none p h = absurd h
+stopped_cause why (Some fault.NoMemory) scene steps last P none p h = none
+stopped_cause why (Some fault.Usage) scene steps last P none p h = subst (λ n. P (Some n)) (sym h.0) p
+stopped_cause why (Some (fault.BadDeck line)) scene steps last P none p h = subst (λ n. P (Some n)) (sym h.0) p
+stopped_cause why (Some fault.ReadFault) scene steps last P none p h = subst (λ n. P (Some n)) (sym h.0) p
+stopped_cause why (Some fault.WriteFault) scene steps last P none p h = subst (λ n. P (Some n)) (sym h.0) p
+stopped_cause why (Some (fault.DeviceFault device)) scene steps last P none p h = subst (λ n. P (Some n)) (sym h.0) p

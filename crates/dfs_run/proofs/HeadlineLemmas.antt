@@ -1,31 +1,32 @@
 -- From the serving of lines to what a run shows of its input.
-use Rattle.std.proofs.Common.{◌≡◌, ℕ, ◌+◌, ◌-◌, Bool, true, false, Option, Some, None, IfSome, option_map, unwrap_or, if◌then◌else◌, List, [], ◌∷◌, ◌++◌, length, suc, take, map, refl, sym, ap, ◌∙◌, subst, append_assoc, append-nil, arith}
+use Rattle.std.proofs.Common.{◌≡◌, ℕ, ◌+◌, ◌-◌, ◌≤◌, Bool, true, false, Option, Some, None, option_map, unwrap_or, if◌then◌else◌, List, [], ◌++◌, length, drop, take, map, refl, sym, ap, ◌∙◌, subst, append_assoc, append-nil, arith}
 use Rattle.std.specs.List.{concat}
-use Rattle.std.specs.Io.KnownBytes.{Appends}
-use Rattle.std.proofs.KnownBytes.{Appends-trans}
-use Rattle.std.proofs.Math.Seq.{take-append_seam, take-append-add, take-length}
+use Rattle.std.specs.Io.KnownBytes.{Appends, prepend_known}
+use Rattle.std.proofs.KnownBytes.{Appends-nil, Appends-trans}
+use Rattle.std.proofs.Math.Seq.{drop-append_seam, take-append_seam, take-append-add, take-length}
 use Rattle.std.proofs.lemmas.List.{take-append-le}
-use Rattle.vfs_base.specs.declared.describe.Describe.{Describe}
 use Rattle.vfs_base.specs.declared.entry.Entry.{Entry}
 use Rattle.vfs_model.specs.Deck.{shell_deck}
+use Rattle.vfs_model.specs.FaultCounts.{ByDevice}
 use Rattle.vfs_model.specs.Schedule.{schedule_line}
-use Rattle.vfs_model.specs.Script.{raw_lines, line_text, whole_lines, first_bad_from, first_bad_line, input_lines}
-use Rattle.vfs_model.specs.ScriptRun.{RunState, has_ended, state_after}
+use Rattle.vfs_model.specs.Script.{first_bad_from, first_bad_line, input_lines, line_text, raw_lines, whole_lines}
+use Rattle.vfs_model.specs.ScriptRun.{RunState, has_ended, run_of, state_after}
 use Rattle.vfs_model.specs.Transcript.{finished_text, shown, transcript}
 use Rattle.vfs_model.specs.declared.script_form.ScriptForm.TheVariants as form
-use Rattle.dfs_input.specs.LineReader.{BeginsBad}
-use Rattle.dfs_run.specs.Ending.{HasBlocks, HasFront, EndsWell, EndsAtBadLine, EndsAtReadFault, WritesEnd, WritesEndFront, WritesRest}
-use Rattle.dfs_run.specs.Headline.{HasTranscript, ShowsFirstLines, ShowsBlocks, ShowsLinesRead, lines_in_form}
-use Rattle.dfs_run.specs.Serving.{Moment, opening_moment, WhereTold, ComeFirst, Serves, Posts, BreaksOff}
-use Rattle.script_stage.specs.Scenes.{Scene}
-use Rattle.dfs_run.specs.Standing.{StandsBehind}
-use Rattle.dfs_run.proofs.ServingLemmas.{map-append}
-
--- a fact where something is told, and one where the later is told, hold of one rest
-pub told_both : (x : List ℕ) (a : Option (List ℕ)) (P : List ℕ → List ℕ → Type 0) (Q : List ℕ → Type 0)
-    → WhereTold (Some x) a P → IfSome a Q → (rest : List ℕ) × P x rest × Q rest
-told_both x None P Q p q = absurd p
-told_both x (Some rest) P Q p q = (rest, p, q)
+use Rattle.dfs_input.proofs.KnownLemmas.{consumed_input}
+use Rattle.dfs_input.proofs.ScriptLemmas.{first_bad_from-first}
+use Rattle.dfs_input.specs.Known.{IsInput}
+use Rattle.dfs_input.specs.LineReader.{BeginsBadLine, is_past_form}
+use Rattle.dfs_run.proofs.ServingLemmas.{bad-behind, fewer-bound, is_supposed, length-mapped, map-append, supposed}
+use Rattle.dfs_run.proofs.StandingLemmas.{here-bound}
+use Rattle.dfs_run.specs.Ending.{EndsAtBadLine, EndsAtReadFault, EndsWell, HasBlocks, HasFront}
+use Rattle.dfs_run.specs.Headline.{HasTranscript, ShowsAllButLast, ShowsBlocks, ShowsFirstLines, begun_line, ended_lines, lines_in_form}
+use Rattle.dfs_run.specs.Run.{OfInput, Run, Streams, run_for}
+use Rattle.dfs_run.specs.declared.report.FaultNote.{FaultNote}
+use Rattle.dfs_run.specs.Serving.{Moment, Posts, Serves, opening_moment}
+use Rattle.dfs_run.specs.Standing.{Continues, StandsBehind}
+use Rattle.dfs_run.specs.Stopping.{BreaksOff}
+use Rattle.script_stage.specs.Scenes.{Scene, Script}
 
 -- what is shown, and the schedule's line behind it where the end was taken
 pub over_text : (s : Option RunState) (f : RunState → List ℕ) (text line : List ℕ) → option_map f s ≡ Some text → has_ended s ≡ true
@@ -41,234 +42,207 @@ open_text None f text line e h = cc
 open_text (Some s) f text line e h =
     ap (λ b. Some (f s ++ (if b then line else []))) h ∙ ap (option_map (λ t. t ++ [])) e ∙ ap Some (append-nil text)
 
--- the transcript of a whole schedule
-pub transcript_whole : (lines : List (List ℕ)) (describe : Describe) (steps : List Entry) (text : List ℕ)
-    → HasBlocks steps describe lines text → HasTranscript form.Shell (shell_deck lines) describe steps true (text ++ schedule_line steps)
-unfolding transcript shown
-transcript_whole lines describe steps text b = record {
-  follows = b.follows;
-  taken = over_text (state_after (shell_deck lines) describe steps) (finished_text form.Shell (shell_deck lines)) text (schedule_line steps) b.taken b.whole;
-  ends = b.whole;
-}
-
--- the transcript of a schedule without its end
-pub transcript_open : (lines : List (List ℕ)) (describe : Describe) (steps : List Entry) (handed : List ℕ) (p : HasFront steps describe lines handed)
-    → HasTranscript form.Shell (shell_deck lines) describe steps false (handed ++ p.later)
-unfolding transcript shown
-transcript_open lines describe steps handed p = record {
-  follows = p.follows;
-  taken = open_text (state_after (shell_deck lines) describe steps) (finished_text form.Shell (shell_deck lines)) (handed ++ p.later) (schedule_line steps) p.taken p.unended;
-  ends = p.unended;
-}
+-- the input that a source without buffered bytes has
+known-opening : (left : Option (List ℕ)) (bytes : List ℕ) → IsInput (prepend_known [] left) bytes → IsInput left bytes
+known-opening None bytes known = tt
+known-opening (Some input) bytes known = known
 
 -- the lines in front
-pub first_lines : (input : List ℕ) (raws later : List (List ℕ)) → raw_lines input ≡ raws ++ later
-    → take (length raws) (input_lines input) ≡ map line_text raws
-first_lines input raws later e =
+pub first-lines : (input : List ℕ) (raws later : List (List ℕ)) → raw_lines input ≡ raws ++ later → take (length raws) (input_lines input) ≡ map line_text raws
+first-lines input raws later e =
     ap (λ l. take (length raws) (map line_text l)) e ∙ ap (take (length raws)) (map-append line_text raws later)
     ∙ ap (λ n. take n (map line_text raws ++ map line_text later)) (sym (length-mapped raws))
     ∙ take-append_seam (map line_text raws) (map line_text later)
-  where
-    length-mapped : (l : List (List ℕ)) → length (map line_text l) ≡ length l
-    length-mapped [] = refl
-    length-mapped (x ∷ l) = ap suc (length-mapped l)
 
--- the first lines of the input, and what was written of their transcript
-front_of : (whole : Bool) (input : List ℕ) (raws later : List (List ℕ)) (describe : Describe) (steps : List Entry) (before sink : Option (List ℕ))
-    (text : List ℕ) (size : ℕ) → raw_lines input ≡ raws ++ later
-    → HasTranscript form.Shell (shell_deck (map line_text raws)) describe steps whole text → Appends before sink (take size text)
-    → ShowsFirstLines whole input describe steps before sink
-front_of whole input raws later describe steps before sink text size e t w = record {
-  count = length raws;
-  front = record {
-    text = text;
-    size = size;
-    transcript = subst (λ lines. HasTranscript form.Shell (shell_deck lines) describe steps whole text) (sym (first_lines input raws later e)) t;
-    written = w;
-  };
-}
+module _ (base : Script) (io : Streams) (steps : List Entry) (last : ByDevice) (fault : Option FaultNote) where
+  abbrev run : Run
+  run = run_for base io steps last fault
 
--- lines that were served are posted
-pub served_posts : (a b : Moment) → Serves a b → Posts a b.stage b.written true
-served_posts a b p = record {
-  raws = p.raws;
-  text = p.text;
-  count = length p.text;
-  reads = told a.ahead b.ahead p.reads;
-  fits = omega arith;
-  written = subst (Appends a.written b.written) (sym (take-length p.text)) p.written;
-  comes = p.stands;
-}
-  where
-    told : (before after : Option (List ℕ)) → WhereTold before after (ComeFirst a b p.raws)
-        → IfSome before (λ bytes. (later : List (List ℕ)) × (raw_lines bytes ≡ p.raws ++ later))
-    told None after q = tt
-    told (Some bytes) None q = absurd q
-    told (Some bytes) (Some rest) q = (raw_lines rest, q.lines)
+  -- the transcript of a whole schedule
+  pub transcript-whole : (lines : List (List ℕ)) (text : List ℕ) → HasBlocks base lines steps last text →
+      HasTranscript form.Shell (shell_deck lines) run true (text ++ schedule_line steps)
+  unfolding transcript shown
+  transcript-whole lines text b = record {
+    follows = b.follows;
+    taken = over_text (state_after (shell_deck lines) base.describe steps) (finished_text form.Shell (shell_deck lines)) text (schedule_line steps) b.taken b.whole;
+    ends = b.whole;
+    taken_on = b.taken_on;
+    unstarved = b.unstarved;
+    before = λ e. absurd (cc);
+  }
 
--- a front of the transcript of posted lines, without the end
-pub front_unended : (start stage : Scene) (describe : Describe) (left before sink : Option (List ℕ)) (steps : List Entry) (done : Bool)
-    (p : Posts (opening_moment start left before) stage sink done) → HasFront steps describe (map line_text p.raws) p.text
-    → IfSome left (λ input. ShowsFirstLines false input describe steps before sink)
-front_unended start stage describe None before sink steps done p h = tt
-front_unended start stage describe (Some input) before sink steps done p h =
-    front_of false input p.raws p.reads.0 describe steps before sink (p.text ++ h.later) p.count p.reads.1
-    (transcript_open (map line_text p.raws) describe steps p.text h)
-    (subst (Appends before sink) (sym (take-append-le p.count p.text h.later p.fits)) p.written)
+  -- the transcript of a schedule without its end
+  pub transcript-open : (lines : List (List ℕ)) (handed : List ℕ) (p : HasFront base lines steps last handed) →
+      HasTranscript form.Shell (shell_deck lines) run false (handed ++ p.later)
+  unfolding transcript shown
+  transcript-open lines handed p = record {
+    follows = p.follows;
+    taken = open_text (state_after (shell_deck lines) base.describe steps) (finished_text form.Shell (shell_deck lines)) (handed ++ p.later) (schedule_line steps) p.taken p.unended;
+    ends = p.unended;
+    taken_on = p.taken_on;
+    unstarved = p.unstarved;
+    before = λ e. p.before;
+  }
 
--- posted lines, of whose transcript a front was written, and the end
-pub front_whole : (start scene : Scene) (describe : Describe) (left before sink : Option (List ℕ)) (steps : List Entry) (rest : List ℕ)
-    (p : Posts (opening_moment start left before) scene sink true) → HasBlocks steps describe (map line_text p.raws) (p.text ++ rest)
-    → IfSome left (λ input. ShowsFirstLines true input describe steps before sink)
-front_whole start scene describe None before sink steps rest p h = tt
-front_whole start scene describe (Some input) before sink steps rest p h =
-    front_of true input p.raws p.reads.0 describe steps before sink ((p.text ++ rest) ++ schedule_line steps) p.count p.reads.1
-    (transcript_whole (map line_text p.raws) describe steps (p.text ++ rest) h)
-    (subst (Appends before sink)
-    (sym (ap (take p.count) (append_assoc p.text rest (schedule_line steps)) ∙ take-append-le p.count p.text (rest ++ schedule_line steps) p.fits)) p.written)
+  -- the first lines of the input, and what was written of their transcript
+  pub front-of : (whole : Bool) (input : List ℕ) (raws later : List (List ℕ)) (text : List ℕ) (size : ℕ) → raw_lines input ≡ raws ++ later →
+      HasTranscript form.Shell (shell_deck (map line_text raws)) run whole text → Appends io.before io.now (take size text) →
+      ShowsAllButLast (map line_text raws) run size → ShowsFirstLines whole run input
+  front-of whole input raws later text size e = λ t w prompt.
+      let same = first-lines input raws later e in
+      record {
+        count = length raws;
+        front = record {
+          text = text;
+          size = size;
+          transcript = subst (λ lines. HasTranscript form.Shell (shell_deck lines) run whole text) (sym same) t;
+          written = w;
+        };
+        prompt = subst (λ lines. ShowsAllButLast lines run size) (sym same) prompt;
+      }
 
--- lines that were served, and the end: of the rest of their transcript a front was written
-pub served_end : (start : Scene) (describe : Describe) (input : List ℕ) (before sink : Option (List ℕ)) (steps : List Entry) (now : Moment)
-    (rest : List ℕ) (count : ℕ) (p : Serves (opening_moment start (Some input) before) now)
-    → HasBlocks steps describe (map line_text p.raws) (p.text ++ rest) → Appends now.written sink (take count (rest ++ schedule_line steps))
-    → ShowsFirstLines true input describe steps before sink
-unfolding served_posts
-served_end start describe input before sink steps now rest count p b w =
-    let q = served_posts (opening_moment start (Some input) before) now p in
-    front_of true input p.raws q.reads.0 describe steps before sink ((p.text ++ rest) ++ schedule_line steps) (length p.text + count) q.reads.1
-    (transcript_whole (map line_text p.raws) describe steps (p.text ++ rest) b)
-    (subst (Appends before sink)
-    (sym (ap (take (length p.text + count)) (append_assoc p.text rest (schedule_line steps)) ∙ take-append-add p.text (rest ++ schedule_line steps) count))
-    (Appends-trans before now.written sink p.text (take count (rest ++ schedule_line steps)) p.written w))
+  -- the blocks of the lines but the last are within what was written
+  posted-prompt : (start stage : Scene) (given before sink : Option (List ℕ)) (done : Bool) (p : Posts (opening_moment start given before) stage sink done) →
+      StandsBehind start base [] [] → Continues stage steps → ShowsAllButLast (map line_text p.raws) run p.count
+  posted-prompt start stage given before sink done p h on s taken =
+      let bound = p.prompt base [] [] h on.0 s (ap (state_after (shell_deck (map line_text p.raws)) base.describe) (sym on.1) ∙ taken) in
+      let last : 0 + (length p.raws - 1) ≡ length (map line_text p.raws) - 1 = omega (arith, length-mapped p.raws) in
+      let count : 0 + p.count ≡ p.count = omega arith in
+      subst (λ n. length (concat (take n (run_of (shell_deck (map line_text p.raws)) s 1).blocks)) ≤ p.count) last
+      (subst (λ m. length (concat (take (0 + (length p.raws - 1)) (run_of (shell_deck (map line_text p.raws)) s 1).blocks)) ≤ m) count bound)
 
--- the rest is a front of the rest and the schedule's line
-rest_written : (now sink : Option (List ℕ)) (rest line : List ℕ) → Appends now sink rest → Appends now sink (take (length rest) (rest ++ line))
-rest_written now sink rest line w = subst (Appends now sink) (sym (take-append_seam rest line)) w
+  -- a front of the transcript of posted lines, without the end
+  pub front-unended : (start stage : Scene) (done : Bool) (p : Posts (opening_moment start io.given io.before) stage io.now done) → StandsBehind start base [] [] →
+      HasFront base (map line_text p.raws) steps last p.text × Continues stage steps → OfInput run (ShowsFirstLines false run)
+  front-unended start stage done p stands h = (
+    p.bytes,
+    known-opening io.given p.bytes p.reads,
+    front-of false p.bytes p.raws p.later (p.text ++ h.0.later) p.count p.lines (transcript-open (map line_text p.raws) p.text h.0)
+        (subst (Appends io.before io.now) (sym (take-append-le p.count p.text h.0.later p.fits)) p.written)
+        (posted-prompt start stage io.given io.before io.now done p stands h.1),
+  )
 
--- the same without the end
-pub served_open : (start : Scene) (describe : Describe) (left before sink : Option (List ℕ)) (steps : List Entry) (now : Moment)
-    (p : Serves (opening_moment start left before) now) → sink ≡ now.written → HasFront steps describe (map line_text p.raws) p.text
-    → IfSome left (λ input. ShowsFirstLines false input describe steps before sink)
-unfolding served_posts
-served_open start describe None before sink steps now p w h = tt
-served_open start describe (Some input) before sink steps now p w h =
-    let q = served_posts (opening_moment start (Some input) before) now p in
-    front_of false input p.raws q.reads.0 describe steps before sink (p.text ++ h.later) (length p.text) q.reads.1
-    (transcript_open (map line_text p.raws) describe steps p.text h)
-    (subst (Appends before sink) (sym (take-append_seam p.text h.later)) (subst (λ w. Appends before w p.text) (sym w) p.written))
+  -- posted lines, of whose transcript a front was written, and the end
+  pub front-whole : (start stage : Scene) (p : Posts (opening_moment start io.given io.before) stage io.now true) → StandsBehind start base [] [] →
+      HasBlocks base (map line_text p.raws) steps last p.text × Continues stage steps → OfInput run (ShowsFirstLines true run)
+  front-whole start stage p stands h = (
+    p.bytes,
+    known-opening io.given p.bytes p.reads,
+    front-of true p.bytes p.raws p.later (p.text ++ schedule_line steps) p.count p.lines (transcript-whole (map line_text p.raws) p.text h.0)
+        (subst (Appends io.before io.now) (sym (take-append-le p.count p.text (schedule_line steps) p.fits)) p.written)
+        (posted-prompt start stage io.given io.before io.now true p stands h.1),
+  )
 
--- all lines were served, and the schedule's line was written
-pub ends_well : (start : Scene) (describe : Describe) (left before sink : Option (List ℕ)) (steps : List Entry) (now : Moment)
-    → StandsBehind start describe [] [] → Serves (opening_moment start left before) now → IfSome now.ahead (λ bytes. bytes ≡ [])
-    → WritesEnd now.stage steps now.written sink → IfSome left (λ input. EndsWell input describe steps before sink)
-ends_well start describe None before sink steps now h p over c = tt
-ends_well start describe (Some input) before sink steps now h p over c =
-    let both = told_both input now.ahead (ComeFirst (opening_moment start (Some input) before) now p.raws) (λ bytes. bytes ≡ []) p.reads over in
-    let all : raw_lines input ≡ p.raws = both.1.lines ∙ ap (λ rest. p.raws ++ raw_lines rest) both.2 ∙ append-nil p.raws in
-    let blocks = c.closes describe (map line_text p.raws) p.text (p.stands describe [] [] h) in
-    let joined : (p.text ++ c.rest) ++ schedule_line steps ≡ p.text ++ (c.rest ++ schedule_line steps) =
-    append_assoc p.text c.rest (schedule_line steps) in
-    record {
-      form = both.1.form ∙ ap (λ rest. first_bad_from (now.number + 1) now.size (raw_lines rest)) both.2;
-      shows = record {
-        deck = shell_deck (map line_text p.raws);
-        text = (p.text ++ c.rest) ++ schedule_line steps;
-        script = ap (λ l. Some (shell_deck (map line_text l))) all;
-        transcript = transcript_whole (map line_text p.raws) describe steps (p.text ++ c.rest) blocks;
-        written = subst (Appends before sink) (sym joined)
-            (Appends-trans before now.written sink p.text (c.rest ++ schedule_line steps) p.written c.written);
-      };
-      front = served_end start describe input before sink steps now c.rest (length (c.rest ++ schedule_line steps)) p blocks
-          (subst (Appends now.written sink) (sym (take-length (c.rest ++ schedule_line steps))) c.written);
-    }
+  module _ (start : Scene) (now : Moment) (p : Serves (opening_moment start io.given io.before) now) (stands : StandsBehind start base [] []) where
+    -- what was served shows all lines but the last
+    served-prompt : (size : ℕ) → length p.text ≤ size → Continues now.stage steps → ShowsAllButLast (map line_text p.raws) run size
+    served-prompt size fits on s taken =
+        let lines = map line_text p.raws in
+        let all = here-bound now.stage base lines p.text (p.stands base [] [] stands) in
+        let bound = fewer-bound now.stage base lines (length lines - 1) (length lines) (length p.text) (omega arith) all on.0 s
+        (ap (state_after (shell_deck lines) base.describe) (sym on.1) ∙ taken) in
+        omega (arith, bound, fits)
 
--- the rest and the schedule's line were written in part
-pub ends_in_part : (start : Scene) (describe : Describe) (left before sink : Option (List ℕ)) (steps : List Entry) (now : Moment)
-    → StandsBehind start describe [] [] → Serves (opening_moment start left before) now → WritesEndFront now.stage steps now.written sink
-    → IfSome left (λ input. ShowsFirstLines true input describe steps before sink)
-ends_in_part start describe None before sink steps now h p c = tt
-ends_in_part start describe (Some input) before sink steps now h p c =
-    served_end start describe input before sink steps now c.rest c.count p
-    (c.closes describe (map line_text p.raws) p.text (p.stands describe [] [] h)) c.written
+    -- the input that these lines begin
+    pub begun-input : (bytes : List ℕ) → IsInput now.ahead bytes → IsInput io.given (concat p.raws ++ bytes)
+    begun-input bytes known = known-opening io.given (concat p.raws ++ bytes) (p.reads.taken bytes known)
 
--- the lines before the bad one
-good_lines : (input : List ℕ) (raws later : List (List ℕ)) (line : ℕ) → raw_lines input ≡ raws ++ later → first_bad_line input ≡ Some line
-    → line ≡ length raws + 1 → map line_text raws ≡ lines_in_form input
-good_lines input raws later line e bad n =
-    sym (ap (λ found. unwrap_or (option_map (λ k. take (k - 1) (input_lines input)) found) (input_lines input)) bad
-    ∙ ap (λ k. take k (input_lines input)) (let m : line - 1 ≡ length raws = omega (arith, n) in m)
-    ∙ first_lines input raws later e)
+    -- lines that were served, and the end: of the schedule's line a front was written
+    pub served-end : (bytes : List ℕ) → IsInput now.ahead bytes → (count : ℕ) → HasBlocks base (map line_text p.raws) steps last p.text × Continues now.stage steps →
+        Appends now.written io.now (take count (schedule_line steps)) → ShowsFirstLines true run (concat p.raws ++ bytes)
+    served-end bytes known count h w =
+        front-of true (concat p.raws ++ bytes) p.raws (raw_lines bytes) (p.text ++ schedule_line steps) (length p.text + count) (p.reads.lines bytes known)
+        (transcript-whole (map line_text p.raws) p.text h.0)
+        (subst (Appends io.before io.now) (sym (take-append-add p.text (schedule_line steps) count))
+        (Appends-trans io.before now.written io.now p.text (take count (schedule_line steps)) p.written w))
+        (served-prompt (length p.text + count) (omega arith) h.1)
 
--- the blocks of lines that were served, and the rest of them
-blocks_of : (start : Scene) (describe : Describe) (left before sink : Option (List ℕ)) (steps : List Entry) (now : Moment) (same : List (List ℕ))
-    → StandsBehind start describe [] [] → (p : Serves (opening_moment start left before) now) → WritesRest now.stage steps now.written sink
-    → map line_text p.raws ≡ same → ShowsBlocks same describe steps before sink
-blocks_of start describe left before sink steps now same h p c e =
-    let b = c.closes describe (map line_text p.raws) p.text (p.stands describe [] [] h) in
-    subst (λ l. ShowsBlocks l describe steps before sink) e (record {
-      text = p.text ++ c.rest;
+    -- nothing was written behind the blocks
+    none-written : io.now ≡ now.written → Appends now.written io.now (take 0 (schedule_line steps))
+    none-written e = subst (λ o. Appends now.written o []) (sym e) (Appends-nil now.written)
+
+    -- all lines were served, and the schedule's line was written
+    pub ends-well : IsInput now.ahead [] → HasBlocks base (map line_text p.raws) steps last p.text × Continues now.stage steps →
+        Appends now.written io.now (schedule_line steps) → OfInput run (EndsWell run)
+    ends-well over h w =
+        let all : raw_lines (concat p.raws ++ []) ≡ p.raws = p.reads.lines [] over ∙ append-nil p.raws in (
+          concat p.raws ++ [],
+          begun-input [] over,
+          record {
+            form = ap (first_bad_from 1 0) all ∙ p.form;
+            shows = record {
+              deck = shell_deck (map line_text p.raws);
+              text = p.text ++ schedule_line steps;
+              script = ap (λ l. Some (shell_deck (map line_text l))) all;
+              transcript = transcript-whole (map line_text p.raws) p.text h.0;
+              written = Appends-trans io.before now.written io.now p.text (schedule_line steps) p.written w;
+            };
+            front = served-end [] over (length (schedule_line steps)) h (subst (Appends now.written io.now) (sym (take-length (schedule_line steps))) w);
+          },
+        )
+
+    -- the blocks of lines that were served
+    shows-blocks : (lines : List (List ℕ)) → map line_text p.raws ≡ lines → io.now ≡ now.written → HasBlocks base (map line_text p.raws) steps last p.text → ShowsBlocks lines run
+    shows-blocks lines e w b = subst (λ l. ShowsBlocks l run) e (record {
+      text = p.text;
       follows = b.follows;
       taken = b.taken;
       whole = b.whole;
-      written = Appends-trans before now.written sink p.text c.rest p.written c.written;
+      written = subst (λ o. Appends io.before o p.text) (sym w) p.written;
     })
 
--- the front that these show
-rest_front : (start : Scene) (describe : Describe) (input : List ℕ) (before sink : Option (List ℕ)) (steps : List Entry) (now : Moment)
-    → StandsBehind start describe [] [] → Serves (opening_moment start (Some input) before) now → WritesRest now.stage steps now.written sink
-    → ShowsFirstLines true input describe steps before sink
-rest_front start describe input before sink steps now h p c =
-    served_end start describe input before sink steps now c.rest (length c.rest) p
-    (c.closes describe (map line_text p.raws) p.text (p.stands describe [] [] h))
-    (rest_written now.written sink c.rest (schedule_line steps) c.written)
+    -- the next line is bad, and the end was taken
+    pub ends-at-bad-line : (line : ℕ) → line ≡ now.number + 1 → BeginsBadLine now.size now.ahead → io.now ≡ now.written →
+        HasBlocks base (map line_text p.raws) steps last p.text × Continues now.stage steps → OfInput run (EndsAtBadLine line run)
+    ends-at-bad-line line number bad w h =
+        let input = concat p.raws ++ bad.bytes in
+        let lines : raw_lines input ≡ p.raws ++ raw_lines bad.bytes = p.reads.lines bad.bytes bad.input in
+        let size : 0 + length (concat p.raws) ≡ now.size = sym p.size in
+        let place : 1 + length p.raws ≡ line = omega (arith, number, p.number) in
+        let form : first_bad_line input ≡ Some line =
+        ap (first_bad_from 1 0) lines ∙ bad-behind 1 0 (length p.raws) p.raws (raw_lines bad.bytes) refl p.form
+        ∙ ap (λ n. first_bad_from (1 + length p.raws) n (raw_lines bad.bytes)) size
+        ∙ first_bad_from-first (1 + length p.raws) now.size bad.bytes bad.begins ∙ ap Some place in
+        let good : map line_text p.raws ≡ lines_in_form input =
+        sym (first-lines input p.raws (raw_lines bad.bytes) lines)
+        ∙ ap (λ n. take n (input_lines input)) (let e : length p.raws ≡ line - 1 = omega (arith, place) in e)
+        ∙ sym (ap (λ found. unwrap_or (option_map (λ k. take (k - 1) (input_lines input)) found) (input_lines input)) form) in (
+          input,
+          begun-input bad.bytes bad.input,
+          record {
+            form = form;
+            shows = shows-blocks (lines_in_form input) good w h.0;
+            front = served-end bad.bytes bad.input 0 h (none-written w);
+          },
+        )
 
--- a line outside the form was met, and the end was taken
-pub ends_at_bad_line : (start : Scene) (describe : Describe) (left before sink : Option (List ℕ)) (steps : List Entry) (line : ℕ) (now : Moment)
-    → StandsBehind start describe [] [] → Serves (opening_moment start left before) now → line ≡ now.number + 1
-    → IfSome now.ahead (BeginsBad now.size) → WritesRest now.stage steps now.written sink
-    → IfSome left (λ input. EndsAtBadLine line input describe steps before sink)
-ends_at_bad_line start describe None before sink steps line now h p n bad c = tt
-ends_at_bad_line start describe (Some input) before sink steps line now h p n bad c =
-    let both = told_both input now.ahead (ComeFirst (opening_moment start (Some input) before) now p.raws) (BeginsBad now.size) p.reads bad in
-    let begins = both.2 in
-    let at : first_bad_from (now.number + 1) now.size (raw_lines both.0) ≡ Some (now.number + 1) =
-    ap (first_bad_from (now.number + 1) now.size) begins.lines
-    ∙ ap (λ b. if b then Some (now.number + 1) else first_bad_from (now.number + 1 + 1) (now.size + length begins.raw) begins.raws) begins.bad in
-    let form : first_bad_line input ≡ Some line = both.1.form ∙ at ∙ ap Some (sym n) in
-    record {
-      form = form;
-      shows = blocks_of start describe (Some input) before sink steps now (lines_in_form input) h p c
-          (good_lines input p.raws (raw_lines both.0) line both.1.lines form (let m = p.number in omega (arith, n, m)));
-      front = rest_front start describe input before sink steps now h p c;
-    }
-
--- the lines that were read whole, and the end
-shows_read : (start : Scene) (describe : Describe) (before sink rest : Option (List ℕ)) (input : List ℕ) (steps : List Entry) (now : Moment)
-    → StandsBehind start describe [] [] → Serves (opening_moment start (Some input) before) now → now.at_end ≡ false
-    → WhereTold now.ahead rest BreaksOff → WritesRest now.stage steps now.written sink
-    → IfSome rest (λ bytes. ShowsLinesRead input bytes describe steps before sink)
-shows_read start describe before sink None input steps now h p unended breaks c = tt
-shows_read start describe before sink (Some bytes) input steps now h p unended breaks c =
-    let both = told_both input now.ahead (ComeFirst (opening_moment start (Some input) before) now p.raws) (λ x. BreaksOff x bytes) p.reads (breaks_off now.ahead breaks) in
-    let lines : whole_lines (concat p.raws ++ both.2.partial) ≡ map line_text p.raws =
-    p.whole unended both.2.partial ∙ ap (λ l. map line_text p.raws ++ l) both.2.none_whole ∙ append-nil (map line_text p.raws) in
-    record {
-      read = concat p.raws ++ both.2.partial;
-      taken = both.1.taken ∙ ap (λ l. concat p.raws ++ l) both.2.taken ∙ sym (append_assoc (concat p.raws) both.2.partial bytes);
-      blocks = blocks_of start describe (Some input) before sink steps now (whole_lines (concat p.raws ++ both.2.partial)) h p c (sym lines);
-    }
-  where
-    breaks_off : (ahead : Option (List ℕ)) → WhereTold ahead (Some bytes) BreaksOff → IfSome ahead (λ x. BreaksOff x bytes)
-    breaks_off None q = tt
-    breaks_off (Some x) q = q
-
--- a read failed, and the end was taken
-pub ends_at_read_fault : (start : Scene) (describe : Describe) (left before sink rest : Option (List ℕ)) (steps : List Entry) (now : Moment)
-    → StandsBehind start describe [] [] → Serves (opening_moment start left before) now → now.at_end ≡ false
-    → WhereTold now.ahead rest BreaksOff → WritesRest now.stage steps now.written sink
-    → IfSome left (λ input. EndsAtReadFault rest input describe steps before sink)
-ends_at_read_fault start describe None before sink rest steps now h p unended breaks c = tt
-ends_at_read_fault start describe (Some input) before sink rest steps now h p unended breaks c = record {
-  shows = shows_read start describe before sink rest input steps now h p unended breaks c;
-  front = rest_front start describe input before sink steps now h p c;
-}
+    -- a read failed in the line that was begun, and the end was taken
+    pub ends-at-read-fault : now.at_end ≡ false → BreaksOff now.size now.ahead io.rest → io.now ≡ now.written →
+        HasBlocks base (map line_text p.raws) steps last p.text × Continues now.stage steps → OfInput run (EndsAtReadFault run)
+    ends-at-read-fault unended breaks w h =
+        let rest = supposed io.rest in
+        let known = is_supposed io.rest in
+        let ahead = consumed_input now.ahead io.rest breaks.partial breaks.taken rest known in
+        let read = concat p.raws ++ breaks.partial in
+        let ended : ended_lines read ≡ p.raws = p.whole unended breaks.partial ∙ ap (λ l. p.raws ++ l) breaks.none_whole ∙ append-nil p.raws in
+        let size : length (concat (ended_lines read)) ≡ now.size =
+        ap (λ l. length (concat l)) ended ∙ (let e : length (concat p.raws) ≡ now.size = omega (arith, p.size) in e) in
+        let begun : begun_line read ≡ breaks.partial =
+        ap (λ l. drop (length (concat l)) read) ended ∙ drop-append_seam (concat p.raws) breaks.partial in (
+          concat p.raws ++ (breaks.partial ++ rest),
+          begun-input (breaks.partial ++ rest) ahead,
+          record {
+            rest = rest;
+            known = known;
+            shows = record {
+              read = read;
+              taken = sym (append_assoc (concat p.raws) breaks.partial rest);
+              form = record {
+                lines = ap (first_bad_from 1 0) ended ∙ p.form;
+                begun = ap (λ n. is_past_form n (begun_line read)) size ∙ ap (is_past_form now.size) begun ∙ breaks.form;
+              };
+              blocks = shows-blocks (whole_lines read) (sym (ap (map line_text) ended)) w h.0;
+            };
+            front = served-end (breaks.partial ++ rest) ahead 0 h (none-written w);
+          },
+        )

@@ -1,9 +1,10 @@
 pub mod EndingLemmas
+pub mod Faultless
 pub mod HeadlineLemmas
 pub mod LineLemmas
-pub mod Marks
 pub mod OpeningLemmas
 pub mod ReplayLemmas
 pub mod ServingLemmas
 pub mod StandingLemmas
 pub mod TopLemmas
+pub mod Unstarved

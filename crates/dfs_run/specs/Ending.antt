@@ -1,143 +1,130 @@
 -- How a run of the shell ends, by its reason.
-use Rattle.std.specs.Prelude.{◌≡◌, ◌⊎◌, ⊤, ℕ, true, false, Option, Some, None, IfSome, List, ◌++◌, take}
+use Rattle.std.specs.Prelude.{◌≡◌, ℕ, [], true, false, Option, Some, None, List, ◌++◌, take}
 use Rattle.std.specs.Io.KnownBytes.{Appends}
-use Rattle.vfs_base.specs.declared.deck.Deck.{Deck}
-use Rattle.vfs_base.specs.declared.describe.Describe.{Describe}
 use Rattle.vfs_base.specs.declared.entry.Entry.{Entry}
-use Rattle.vfs_model.specs.Deck.{shell_deck}
+use Rattle.vfs_model.specs.FaultCounts.{ByDevice}
+use Rattle.vfs_model.specs.Leaving.{IsBeforeLeaving, LeavesUnstarved}
 use Rattle.vfs_model.specs.Schedule.{schedule_line}
 use Rattle.vfs_model.specs.Script.{first_bad_line}
 use Rattle.vfs_model.specs.ScriptRun.{has_ended, state_after}
 use Rattle.vfs_model.specs.Transcript.{shown}
 use Rattle.vfs_model.specs.Turns.{FollowsScript}
 use Rattle.vfs_model.specs.declared.script_form.ScriptForm.TheVariants as form
-use Rattle.vfs_outside.specs.Causes.{Rose}
+use Rattle.dfs_input.specs.Known.{IsInput}
 use Rattle.dfs_words.specs.declared.mode.Job.TheVariants as job
-use Rattle.dfs_run.specs.Headline.{ShowsPlainTree, ShowsFirstLines, ShowsBlocks, ShowsLinesRead, lines_in_form}
-use Rattle.script_stage.specs.Scenes.{Scene}
-use Rattle.script_stage.specs.Standing.{ClosesAt, StandsAt, closing_tasks}
-use Rattle.dfs_run.specs.Standing.{StandsBehind, StopsBehind}
+use Rattle.dfs_run.specs.Headline.{ShowsBlocks, ShowsFirstLines, ShowsLinesRead, ShowsPlainTree, lines_in_form}
+use Rattle.dfs_run.specs.Run.{OfInput, Run, Streams, run_for}
+use Rattle.dfs_run.specs.Standing.{Continues, StandsBehind, StopsBehind, with_lines}
 use Rattle.dfs_run.specs.declared.report.FaultNote.{FaultNote}
 use Rattle.dfs_run.specs.declared.report.FaultNote.TheVariants as fault
+use Rattle.script_stage.specs.Scenes.{Scene, Script, told_entries}
+use Rattle.script_stage.specs.Standing.{IsTakenOn}
+use Rattle.step_world.specs.WorldView.{WorldView}
 
 -- all lines are in the form, and all is shown
-pub record EndsWell (input : List ℕ) (describe : Describe) (steps : List Entry) (before now : Option (List ℕ)) : Type 0 where
+pub record EndsWell (run : Run) (input : List ℕ) : Type 0 where
   pub form : first_bad_line input ≡ None
-  pub shows : ShowsPlainTree job.Shell input describe steps before now
-  pub front : ShowsFirstLines true input describe steps before now
+  pub shows : ShowsPlainTree job.Shell run input
+  pub front : ShowsFirstLines true run input
 
 -- the line is the first outside the form, and all before it is shown
-pub record EndsAtBadLine (line : ℕ) (input : List ℕ) (describe : Describe) (steps : List Entry) (before now : Option (List ℕ)) : Type 0 where
+pub record EndsAtBadLine (line : ℕ) (run : Run) (input : List ℕ) : Type 0 where
   pub form : first_bad_line input ≡ Some line
-  pub shows : ShowsBlocks (lines_in_form input) describe steps before now
-  pub front : ShowsFirstLines true input describe steps before now
+  pub shows : ShowsBlocks (lines_in_form input) run
+  pub front : ShowsFirstLines true run input
 
 -- all lines that were read whole are shown
-pub record EndsAtReadFault (left : Option (List ℕ)) (input : List ℕ) (describe : Describe) (steps : List Entry) (before now : Option (List ℕ)) : Type 0 where
-  pub shows : IfSome left (λ rest. ShowsLinesRead input rest describe steps before now)
-  pub front : ShowsFirstLines true input describe steps before now
+pub record EndsAtReadFault (run : Run) (input : List ℕ) : Type 0 where
+  pub rest : List ℕ
+  pub known : IsInput run.io.rest rest
+  pub shows : ShowsLinesRead rest run input
+  pub front : ShowsFirstLines true run input
 
--- the end of a run for this reason, of a source that had and has these bytes left
-abbrev pub Ends : Describe → Option (List ℕ) → Option (List ℕ) → List Entry → Option (List ℕ) → Option (List ℕ) → Option FaultNote → Type 0
-Ends describe old left steps before now None = IfSome old (λ input. EndsWell input describe steps before now)
-Ends describe old left steps before now (Some fault.NoMemory) = IfSome old (λ input. ShowsFirstLines false input describe steps before now)
-Ends describe old left steps before now (Some fault.Usage) = ⊥
-Ends describe old left steps before now (Some (fault.BadDeck line)) = IfSome old (λ input. EndsAtBadLine line input describe steps before now)
-Ends describe old left steps before now (Some fault.ReadFault) = IfSome old (λ input. EndsAtReadFault left input describe steps before now)
-Ends describe old left steps before now (Some fault.WriteFault) = IfSome old (λ input. ShowsFirstLines true input describe steps before now)
+-- the end of a run for this reason
+abbrev pub EndsFor : Option FaultNote → Run → Type 0
+EndsFor None run = OfInput run (EndsWell run)
+EndsFor (Some fault.NoMemory) run = OfInput run (ShowsFirstLines false run)
+EndsFor (Some fault.Usage) run = ⊥
+EndsFor (Some (fault.BadDeck line)) run = OfInput run (EndsAtBadLine line run)
+EndsFor (Some fault.ReadFault) run = OfInput run (EndsAtReadFault run)
+EndsFor (Some fault.WriteFault) run = OfInput run (ShowsFirstLines true run)
+EndsFor (Some (fault.DeviceFault device)) run = ⊥
+
+abbrev pub ShellEnds : Run → Type 0
+ShellEnds run = EndsFor run.fault run
+
+-- the end of a run whose stage stood before the first line
+abbrev pub EndsServed : Scene → Streams → List Entry → WorldView → Option FaultNote → Type 0
+EndsServed start io steps view told =
+    (base : Script) → StandsBehind start base [] [] → ShellEnds (run_for base io steps view.faults told)
 
 -- The lines were run by these steps, the end was taken, and the lines' blocks are this text.
-pub record HasBlocks (steps : List Entry) (describe : Describe) (lines : List (List ℕ)) (text : List ℕ) : Type 0 where
-  pub follows : FollowsScript form.Shell (shell_deck lines) describe steps
-  pub taken : shown form.Shell (shell_deck lines) describe steps ≡ Some text
-  pub whole : has_ended (state_after (shell_deck lines) describe steps) ≡ true
+pub record HasBlocks (base : Script) (lines : List (List ℕ)) (steps : List Entry) (last : ByDevice) (text : List ℕ) : Type 0 where
+  pub follows : FollowsScript form.Shell (with_lines base lines).deck base.describe steps
+  pub taken : shown form.Shell (with_lines base lines).deck base.describe steps ≡ Some text
+  pub whole : has_ended (state_after (with_lines base lines).deck base.describe steps) ≡ true
+  pub taken_on : IsTakenOn (with_lines base lines) steps last
+  pub unstarved : LeavesUnstarved (with_lines base lines).deck base.describe steps
 
--- By these steps the lines came so far; what was handed out is a front of their blocks, and the end was not taken.
-pub record HasFront (steps : List Entry) (describe : Describe) (lines : List (List ℕ)) (handed : List ℕ) : Type 0 where
+-- By these steps the lines came so far; what was handed out is a front of their blocks, and no session left.
+pub record HasFront (base : Script) (lines : List (List ℕ)) (steps : List Entry) (last : ByDevice) (handed : List ℕ) : Type 0 where
   pub later : List ℕ
-  pub follows : FollowsScript form.Shell (shell_deck lines) describe steps
-  pub taken : shown form.Shell (shell_deck lines) describe steps ≡ Some (handed ++ later)
-  pub unended : has_ended (state_after (shell_deck lines) describe steps) ≡ false
+  pub follows : FollowsScript form.Shell (with_lines base lines).deck base.describe steps
+  pub taken : shown form.Shell (with_lines base lines).deck base.describe steps ≡ Some (handed ++ later)
+  pub unended : has_ended (state_after (with_lines base lines).deck base.describe steps) ≡ false
+  pub taken_on : IsTakenOn (with_lines base lines) steps last
+  pub unstarved : LeavesUnstarved (with_lines base lines).deck base.describe steps
+  pub before : IsBeforeLeaving (with_lines base lines).deck base.describe steps
 
--- The steps of a stage that stood behind lines, the end among them; behind what was handed out the blocks have this text.
-abbrev pub Closes : Scene → List Entry → List ℕ → Type 0
-Closes scene steps rest = (describe : Describe) (lines : List (List ℕ)) (handed : List ℕ) →
-    StandsBehind scene describe lines handed → HasBlocks steps describe lines (handed ++ rest)
+-- the steps of a stage that stood behind lines, the end among them: the blocks are what was handed out
+abbrev pub Closes : Scene → List Entry → ByDevice → Type 0
+Closes scene steps last = (base : Script) (lines : List (List ℕ)) (handed : List ℕ) →
+    StandsBehind scene base lines handed → HasBlocks base lines steps last handed × Continues scene steps
 
--- the steps of a stage that stood behind lines, without the end
-abbrev pub LeavesOpen : Scene → List Entry → Type 0
-LeavesOpen scene steps = (describe : Describe) (lines : List (List ℕ)) (handed : List ℕ) →
-    StandsBehind scene describe lines handed → HasFront steps describe lines handed
+-- the steps of a stage that stood behind lines, without those by which the sessions left
+abbrev pub LeavesOpen : Scene → List Entry → ByDevice → Type 0
+LeavesOpen scene steps last = (base : Script) (lines : List (List ℕ)) (handed : List ℕ) →
+    StandsBehind scene base lines handed → HasFront base lines steps last handed × Continues scene steps
 
 -- the steps of a stage that want of memory stopped
-abbrev pub KeepsSteps : Scene → List Entry → Type 0
-KeepsSteps scene steps = (describe : Describe) (lines : List (List ℕ)) (handed : List ℕ) →
-    StopsBehind scene describe lines handed → HasFront steps describe lines handed
+abbrev pub KeepsSteps : Scene → List Entry → ByDevice → Type 0
+KeepsSteps scene steps last = (base : Script) (lines : List (List ℕ)) (handed : List ℕ) →
+    StopsBehind scene base lines handed → HasFront base lines steps last handed × Continues scene steps
 
--- the end was taken, and the rest of the blocks was written
-pub record WritesRest (scene : Scene) (steps : List Entry) (before now : Option (List ℕ)) : Type 0 where
-  pub rest : List ℕ
-  pub closes : Closes scene steps rest
-  pub written : Appends before now rest
+-- the end was taken, and the schedule's line was written
+pub record WritesEnd (scene : Scene) (steps : List Entry) (last : ByDevice) (before now : Option (List ℕ)) : Type 0 where
+  pub closes : Closes scene steps last
+  pub written : Appends before now (schedule_line steps)
 
--- the end was taken, and the rest of the blocks and the schedule's line were written
-pub record WritesEnd (scene : Scene) (steps : List Entry) (before now : Option (List ℕ)) : Type 0 where
-  pub rest : List ℕ
-  pub closes : Closes scene steps rest
-  pub written : Appends before now (rest ++ schedule_line steps)
-
--- the same, of which a front was written
-pub record WritesEndFront (scene : Scene) (steps : List Entry) (before now : Option (List ℕ)) : Type 0 where
-  pub rest : List ℕ
+-- the same, and a front of the line was written
+pub record WritesEndFront (scene : Scene) (steps : List Entry) (last : ByDevice) (before now : Option (List ℕ)) : Type 0 where
   pub count : ℕ
-  pub closes : Closes scene steps rest
-  pub written : Appends before now (take count (rest ++ schedule_line steps))
+  pub closes : Closes scene steps last
+  pub written : Appends before now (take count (schedule_line steps))
+
+-- a text was written, or a front of it where the sink failed
+abbrev pub WritesText : Option FaultNote → Option (List ℕ) → Option (List ℕ) → List ℕ → Type 0
+WritesText None before now text = Appends before now text
+WritesText (Some fault.WriteFault) before now text = (count : ℕ) × Appends before now (take count text)
+WritesText (Some why) before now text = ⊥
+
+-- behind the end its schedule's line was written; where there is no memory for it nothing is, and the schedule is told without exits
+abbrev pub WritesLine : Option FaultNote → Scene → List Entry → Option (List ℕ) → Option (List ℕ) → Type 0
+WritesLine None scene steps before now = (steps ≡ scene.schedule) × Appends before now (schedule_line scene.schedule)
+WritesLine (Some fault.NoMemory) scene steps before now = (steps ≡ told_entries scene) × (now ≡ before)
+WritesLine (Some fault.WriteFault) scene steps before now =
+    (steps ≡ scene.schedule) × (count : ℕ) × Appends before now (take count (schedule_line scene.schedule))
+WritesLine (Some why) scene steps before now = ⊥
 
 -- what is done behind the last line, by the reason for stopping there
-abbrev pub ClosesSchedule : Scene → List Entry → Option (List ℕ) → Option (List ℕ) → Option FaultNote → Type 0
-ClosesSchedule scene steps before now None = WritesEnd scene steps before now
-ClosesSchedule scene steps before now (Some fault.NoMemory) = LeavesOpen scene steps × (now ≡ before)
-ClosesSchedule scene steps before now (Some fault.Usage) = ⊥
-ClosesSchedule scene steps before now (Some (fault.BadDeck line)) = ⊥
-ClosesSchedule scene steps before now (Some fault.ReadFault) = ⊥
-ClosesSchedule scene steps before now (Some fault.WriteFault) = WritesEndFront scene steps before now
+abbrev pub ClosesFor : Option FaultNote → Scene → List Entry → ByDevice → Option (List ℕ) → Option (List ℕ) → Type 0
+ClosesFor None scene steps last before now = WritesEnd scene steps last before now
+ClosesFor (Some fault.NoMemory) scene steps last before now = LeavesOpen scene steps last × (now ≡ before)
+ClosesFor (Some fault.WriteFault) scene steps last before now = WritesEndFront scene steps last before now
+ClosesFor (Some why) scene steps last before now = ⊥
 
--- the steps of a stage that want of memory stopped, or kept from its end
-abbrev pub LosesEnd : FaultNote → Scene → List Entry → Type 0
-LosesEnd fault.NoMemory scene steps = KeepsSteps scene steps
-LosesEnd _ scene steps = LeavesOpen scene steps
-
--- a front of the rest was written, or nothing more where a write had failed before
-abbrev pub FailsWriting : FaultNote → Scene → List Entry → Option (List ℕ) → Option (List ℕ) → Type 0
-FailsWriting fault.NoMemory scene steps before now = ⊥
-FailsWriting fault.WriteFault scene steps before now = (now ≡ before) × ((rest : List ℕ) × Closes scene steps rest)
-FailsWriting _ scene steps before now = WritesEndFront scene steps before now
-
--- the end is taken for the reason that there was, or there is no memory for it, or the rest can't be written
-abbrev pub StopsWith : FaultNote → Scene → List Entry → Option (List ℕ) → Option (List ℕ) → FaultNote → Type 0
-StopsWith why scene steps before now fault.NoMemory = (now ≡ before) × LosesEnd why scene steps
-StopsWith why scene steps before now fault.Usage = (fault.Usage ≡ why) × WritesRest scene steps before now
-StopsWith why scene steps before now (fault.BadDeck line) = (fault.BadDeck line ≡ why) × WritesRest scene steps before now
-StopsWith why scene steps before now fault.ReadFault = (fault.ReadFault ≡ why) × WritesRest scene steps before now
-StopsWith why scene steps before now fault.WriteFault = FailsWriting why scene steps before now
-
--- why a shell reads no further, though memory and the sink serve
-abbrev pub StopsReading : FaultNote → Type 0
-StopsReading fault.NoMemory = ⊥
-StopsReading fault.Usage = ⊤
-StopsReading (fault.BadDeck line) = ⊤
-StopsReading fault.ReadFault = ⊤
-StopsReading fault.WriteFault = ⊥
-
--- a run that stopped early ends for the same reason, for want of memory, or by a failed write
-abbrev pub KeepsReason : FaultNote → ℕ → ℕ → FaultNote → Type 0
-KeepsReason why before now fault.NoMemory = ⊤
-KeepsReason why before now fault.Usage = (fault.Usage ≡ why) × (now ≡ before)
-KeepsReason why before now (fault.BadDeck line) = (fault.BadDeck line ≡ why) × (now ≡ before)
-KeepsReason why before now fault.ReadFault = (fault.ReadFault ≡ why) × (now ≡ before)
-KeepsReason why before now fault.WriteFault = ((fault.WriteFault ≡ why) × (now ≡ before)) ⊎ (StopsReading why × Rose before now)
-
--- the end of the one stage was taken, and the other is left
-abbrev pub TakesEnd : Scene → Scene → Type 0
-TakesEnd old new = (deck : Deck) (describe : Describe) (handed : List ℕ) →
-    StandsAt old deck describe closing_tasks handed → ClosesAt new deck describe handed
+-- what is done where serving stopped early, for this reason: the end is taken, unless memory is wanting
+abbrev pub StopsFor : FaultNote → Option FaultNote → Scene → List Entry → ByDevice → Type 0
+StopsFor why None scene steps last = ⊥
+StopsFor why (Some fault.NoMemory) scene steps last = LeavesOpen scene steps last
+StopsFor why (Some told) scene steps last = (told ≡ why) × Closes scene steps last

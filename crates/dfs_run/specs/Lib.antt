@@ -1,8 +1,10 @@
+pub mod Causes
 pub mod Ending
 pub mod Headline
 pub mod Opening
 pub mod Replaying
 pub mod Report
+pub mod Run
 pub mod Serving
 pub mod Standing
 pub mod Stopping

@@ -1,17 +1,17 @@
 -- The world that a run begins with.
-use Rattle.std.specs.Prelude.{◌≡◌, false, map}
-use Rattle.vfs_base.specs.declared.deck.Deck.{Deck}
+use Rattle.std.specs.Prelude.{◌≡◌, false}
 use Rattle.vfs_base.specs.declared.describe.Describe.{Describe}
-use Rattle.vfs_model.specs.Homes.{opening_world}
-use Rattle.vfs_model.specs.ScriptRun.{has_untold, rom_image}
-use Rattle.vfs_model.specs.declared.world.WorldState.{WorldState}
+use Rattle.vfs_model.specs.FaultCounts.{no_devices}
+use Rattle.vfs_base.specs.declared.deck.Deck.{Deck}
+use Rattle.vfs_model.specs.ScriptRun.{has_untold}
 use Rattle.plain_steps.specs.Opening.{HasFewCellsEach}
+use Rattle.script_stage.specs.Scenes.{Script}
 
 -- every character device tells its input, and each volume has few cells
 pub record IsTold (describe : Describe) : Type 0 where
   pub told : has_untold describe ≡ false
   pub few : HasFewCellsEach describe
 
--- the world at the start of a script
-abbrev pub OpensFor : Deck → Describe → WorldState → Type 0
-OpensFor deck describe w = w ≡ opening_world (map rom_image deck.roms) describe
+-- the script on devices none of which has counted a fault: they are none
+abbrev pub plainly : Deck → Describe → Script
+plainly deck describe = record { deck = deck; describe = describe; counted = no_devices }

@@ -10,3 +10,4 @@ status_of (Some fault.Usage) = 2
 status_of (Some (fault.BadDeck line)) = 3
 status_of (Some fault.ReadFault) = 4
 status_of (Some fault.WriteFault) = 5
+status_of (Some (fault.DeviceFault device)) = 6

@@ -2,33 +2,32 @@
 
 ghost use Rattle.std.specs.Prelude.{◌≡◌, true, Ok, Some, [], IfNone, IfOk, IfErr, OnOk, OnErr, IfSome};
 ghost use Rattle.std.specs.Io.KnownBytes.{IsAtEnd};
+ghost use Rattle.script_stage.specs.Scenes.{Script};
 ghost use Rattle.script_stage.specs.Standing.{ClosesAt, StandsAt, StopsAt};
-ghost use Rattle.vfs_base.specs.declared.deck.Deck.{Deck as AnyDeck};
-ghost use Rattle.vfs_base.specs.declared.describe.Describe.{Describe as AnyDescribe};
-ghost use Rattle.vfs_model.specs.Deck.{deck_of};
 ghost use Rattle.vfs_model.specs.DeckLaws.{IsScript};
-ghost use Rattle.vfs_model.specs.Transcript.{transcript};
+ghost use Rattle.vfs_model.specs.FaultCounts.{no_devices};
 ghost use Rattle.vfs_model.specs.Turns.{script_tasks};
-ghost use Rattle.vfs_model.specs.declared.script_form.ScriptForm.TheVariants.{Replay};
-ghost use Rattle.dfs_run.specs.Headline.{HasTranscript};
-ghost use Rattle.dfs_run.specs.Opening.{IsTold};
-ghost use Rattle.dfs_run.specs.Replaying.{Plays, ReplayEnds, StopsScript};
+ghost use Rattle.dfs_run.specs.Causes.{HasCause};
+ghost use Rattle.dfs_run.specs.Opening.{IsTold, plainly};
+ghost use Rattle.dfs_run.specs.Replaying.{HasScriptCause, IsReadAs, IsTranscript, LeavesSink, PlaysFor, PlaysOn, ReplayEnds, StopsScript, WritesFor, reads_all};
 ghost use Rattle.dfs_run.specs.Report.{status_of};
-ghost use Rattle.dfs_run.specs.Stopping.{HasReason};
+ghost use Rattle.dfs_run.specs.Run.{ReadsThrough, run_of, streams};
 
+use crate::ending::{give_up, write_text};
 use crate::opening::open_stage;
-use crate::plain_system::PlainSystem;
 use crate::report::{FaultNote, Report};
-use crate::schedule::{with_line, without_last};
-use crate::writing::write_all;
+use crate::schedule::with_line;
+use crate::script_stop::ScriptStop;
 use deck_form::{DeckFault, read_deck};
 use dfs_input::{InputFault, read_all};
-use script_stage::Stage;
+use script_stage::{Ended, Stage};
 use std::alloc::Global;
-use vfs_base::{Bytes, Deck, Describe, Entry, List, NoMemory};
+use step_world::StepWorld;
+use vfs_base::{Bytes, Deck, Describe, List, NoMemory};
 use vfs_outside::{Sink, Source};
 
 /// Reads the script of the source to its end, runs it, and writes its transcript.
+#[tactic(auto, using(crate::proofs::ReplayLemmas::plays_told, crate::proofs::ReplayLemmas::stops_told))]
 pub fn run_replay<S: Source, K: Sink>(
     alloc: Global,
     describe: &Describe,
@@ -36,112 +35,119 @@ pub fn run_replay<S: Source, K: Sink>(
     sink: &mut K,
 ) -> Report
     requires { IsTold describe.now }
-    ensures ends { IfSome (S.left source.old) (λ input.
-        ReplayEnds input describe.now result.schedule (K.written sink.old) (K.written sink.new) result.fault) }
+    ensures ends { ReplayEnds (run_of (streams (S.left source.old) (S.left source.new) (K.written sink.old) (K.written sink.new)) describe.now result) }
     ensures status { result.status ≡ status_of result.fault }
     ensures over { IfNone result.fault (IsAtEnd (S.left source.new)) }
-    ensures quiet { IfNone result.fault ((S.faults source.new ≡ S.faults source.old) × (K.faults sink.new ≡ K.faults sink.old)) }
-    ensures cause { IfSome result.fault (HasReason (S.faults source.old) (S.faults source.new) (K.faults sink.old) (K.faults sink.new)) }
+    ensures through { reads_all result.fault ≡ true → ReadsThrough (S.left source.old) (S.left source.new) }
+    ensures silent { LeavesSink result.fault result.schedule sink.old sink.new }
+    ensures cause { HasCause (S.faults source.old) (S.faults source.new) (K.faults sink.old) (K.faults sink.new) result.fault }
 {
     match read_script(alloc, source) {
         Ok(deck) => play(alloc, &deck, describe, sink),
-        Err(fault) => Report::new(List::new(alloc), Some(fault)),
+        Err(stop) => Report::new(List::new(alloc), Some(stop.note())),
     }
 }
 
 // The script that the source is, read to its end.
-fn read_script<S: Source>(alloc: Global, source: &mut S) -> Result<Deck, FaultNote>
-    ensures deck { IfOk result (λ deck. IfSome (S.left source.old) (λ input. deck_of input ≡ Ok deck)) }
+#[tactic(auto, using(dfs_input::proofs::InputLemmas::known_script))]
+fn read_script<S: Source>(alloc: Global, source: &mut S) -> Result<Deck, ScriptStop>
+    ensures deck { IfOk result (IsReadAs (S.left source.old)) }
     ensures script { IfOk result IsScript }
     ensures end { OnOk result (IsAtEnd (S.left source.new)) }
-    ensures quiet { OnOk result (S.faults source.new ≡ S.faults source.old) }
-    ensures stop { IfErr result (λ why. IfSome (S.left source.old) (λ input. StopsScript input why)) }
-    ensures cause { IfErr result (HasReason (S.faults source.old) (S.faults source.new) 0 0) }
+    ensures through { OnOk result (ReadsThrough (S.left source.old) (S.left source.new)) }
+    ensures stop { IfErr result (StopsScript (S.left source.old) (S.left source.new)) }
+    ensures cause { HasScriptCause (S.faults source.old) (S.faults source.new) result }
 {
     let bytes = match read_all(alloc, source) {
         Ok(bytes) => bytes,
-        Err(InputFault::Failed) => return Err(FaultNote::ReadFault),
-        Err(InputFault::NoMemory) => return Err(FaultNote::NoMemory),
+        Err(InputFault::Failed) => return Err(ScriptStop::ReadFault),
+        Err(InputFault::NoMemory) => return Err(ScriptStop::NoMemory),
     };
     match read_deck(alloc, bytes.as_slice()) {
         Ok(deck) => Ok(deck),
-        Err(DeckFault::Line { line }) => Err(FaultNote::BadDeck { line }),
-        Err(DeckFault::NoMemory) => Err(FaultNote::NoMemory),
+        Err(DeckFault::Line { line }) => Err(ScriptStop::BadLine { line }),
+        Err(DeckFault::NoMemory) => Err(ScriptStop::NoMemory),
     }
 }
 
-// Runs a script, and writes its transcript.
+// Runs a script on the plain world, and writes its transcript.
 fn play<K: Sink>(alloc: Global, deck: &Deck, describe: &Describe, sink: &mut K) -> Report
     requires script { IsScript deck.now }
     requires told { IsTold describe.now }
-    ensures plays { Plays deck.now describe.now result.schedule (K.written sink.old) (K.written sink.new) result.fault }
+    ensures plays { PlaysFor result.fault (plainly deck.now describe.now) result.schedule no_devices
+        (K.written sink.old) (K.written sink.new) }
     ensures status { result.status ≡ status_of result.fault }
-    ensures quiet { IfNone result.fault (K.faults sink.new ≡ K.faults sink.old) }
-    ensures cause { IfSome result.fault (HasReason 0 0 (K.faults sink.old) (K.faults sink.new)) }
+    ensures silent { LeavesSink result.fault [] sink.old sink.new }
+    ensures cause { HasCause 0 0 (K.faults sink.old) (K.faults sink.new) result.fault }
 {
-    let Ok(mut stage) = open_stage(alloc, deck, describe) else {
-        return Report::new(List::new(alloc), Some(FaultNote::NoMemory));
-    };
+    match open_stage(alloc, deck, describe) {
+        Ok(stage) => {
+            let (ended, fault) = run(alloc, stage, deck, sink);
+            Report::of(ended, fault)
+        }
+        Err(_) => Report::new(List::new(alloc), Some(FaultNote::NoMemory)),
+    }
+}
+
+// Runs a script on its stage, and writes its transcript.
+#[tactic(auto, using(crate::proofs::ReplayLemmas::plays_stopped, crate::proofs::ReplayLemmas::plays_written))]
+fn run<W: StepWorld, K: Sink>(
+    alloc: Global,
+    mut stage: Stage<W>,
+    deck: &Deck,
+    sink: &mut K,
+) -> (Ended<W>, Option<FaultNote>)
+    requires { IsScript deck.now }
+    ensures plays { PlaysOn stage deck.now result.1 result.0.schedule (W.seen result.0.world) (K.written sink.old) (K.written sink.new) }
+    ensures silent { LeavesSink result.1 [] sink.old sink.new }
+    ensures cause { HasCause 0 0 (K.faults sink.old) (K.faults sink.new) result.1 }
+{
     match play_all(alloc, &mut stage, deck) {
-        Ok(()) => write_replay(alloc, stage, deck, sink),
-        Err(_) => Report::new(stage.give_up(alloc), Some(FaultNote::NoMemory)),
+        Ok(()) => write_transcript(alloc, stage, deck, sink),
+        Err(_) => give_up(alloc, stage),
     }
 }
 
 // Plays all acts of the script, and takes the end.
-fn play_all(alloc: Global, stage: &mut Stage<PlainSystem>, deck: &Deck) -> Result<(), NoMemory>
+fn play_all<W: StepWorld>(alloc: Global, stage: &mut Stage<W>, deck: &Deck) -> Result<(), NoMemory>
     requires { IsScript deck.now }
-    ensures ok { OnOk result ((describe : AnyDescribe) →
-        StandsAt stage.old deck.now describe (script_tasks deck.now) [] → ClosesAt stage.new deck.now describe []) }
-    ensures err { OnErr result ((describe : AnyDescribe) →
-        StandsAt stage.old deck.now describe (script_tasks deck.now) [] → StopsAt stage.new deck.now describe []) }
+    ensures ok { OnOk result ((script : Script) → script.deck ≡ deck.now →
+        StandsAt stage.old script (script_tasks script.deck) [] → ClosesAt stage.new script []) }
+    ensures err { OnErr result ((script : Script) → script.deck ≡ deck.now →
+        StandsAt stage.old script (script_tasks script.deck) [] → StopsAt stage.new script []) }
 {
     for act in deck.acts.as_slice() {
         stage.play(alloc, act)?;
     }
-    stage.close(alloc)
+    stage.close(alloc)?;
+    Ok(())
 }
 
-// Writes the transcript of a stage whose end was taken. After want of memory the end is no part of the
-// schedule.
-fn write_replay<K: Sink>(
+// Writes the transcript of a stage whose end was taken. Where there is no memory for it, the schedule is told without
+// the exits.
+fn write_transcript<W: StepWorld, K: Sink>(
     alloc: Global,
-    stage: Stage<PlainSystem>,
+    stage: Stage<W>,
     deck: &Deck,
     sink: &mut K,
-) -> Report
-    ensures writes { (describe : AnyDescribe) → ClosesAt stage deck.now describe [] →
-        Plays deck.now describe result.schedule (K.written sink.old) (K.written sink.new) result.fault }
-    ensures status { result.status ≡ status_of result.fault }
-    ensures quiet { IfNone result.fault (K.faults sink.new ≡ K.faults sink.old) }
-    ensures cause { IfSome result.fault (HasReason 0 0 (K.faults sink.old) (K.faults sink.new)) }
+) -> (Ended<W>, Option<FaultNote>)
+    ensures writes { WritesFor result.1 deck.now stage result.0.schedule (K.written sink.old) (K.written sink.new) }
+    ensures world { W.seen result.0.world ≡ stage.view }
+    ensures silent { LeavesSink result.1 [] sink.old sink.new }
+    ensures cause { HasCause 0 0 (K.faults sink.old) (K.faults sink.new) result.1 }
 {
-    let text = transcript(alloc, &stage, deck);
-    let schedule = stage.into_schedule();
-    match text {
-        Ok(text) => write_text(schedule, text, sink),
-        Err(_) => Report::new(without_last(schedule), Some(FaultNote::NoMemory)),
-    }
-}
-
-// Writes the transcript of this schedule.
-fn write_text<K: Sink>(schedule: List<Entry>, text: Bytes, sink: &mut K) -> Report
-    ensures writes { (deck : AnyDeck) (describe : AnyDescribe) → HasTranscript Replay deck describe schedule true text →
-        Plays deck describe result.schedule (K.written sink.old) (K.written sink.new) result.fault }
-    ensures status { result.status ≡ status_of result.fault }
-    ensures quiet { IfNone result.fault (K.faults sink.new ≡ K.faults sink.old) }
-    ensures cause { IfSome result.fault (HasReason 0 0 (K.faults sink.old) (K.faults sink.new)) }
-{
-    match write_all(sink, text.as_slice()) {
-        Ok(()) => Report::new(schedule, None),
-        Err(_) => Report::new(schedule, Some(FaultNote::WriteFault)),
+    match transcript(alloc, &stage, deck) {
+        Ok(text) => {
+            let fault = write_text(sink, text.as_slice());
+            (stage.finish(), fault)
+        }
+        Err(_) => (stage.cut_off(), Some(FaultNote::NoMemory)),
     }
 }
 
 // The transcript of a stage whose end was taken.
-fn transcript(alloc: Global, stage: &Stage<PlainSystem>, deck: &Deck) -> Result<Bytes, NoMemory>
-    ensures { IfOk result (λ text. (describe : AnyDescribe) → ClosesAt stage.now deck.now describe [] →
-        transcript Replay deck.now describe stage.now.schedule ≡ Some text) }
+fn transcript<W: StepWorld>(alloc: Global, stage: &Stage<W>, deck: &Deck) -> Result<Bytes, NoMemory>
+    ensures { IfOk result (IsTranscript stage.now deck.now) }
 {
     let mut text = Bytes::new(alloc);
     stage.push_sessions(&mut text, deck.acts.as_slice())?;

@@ -71,7 +71,7 @@ impl Told {
 }
 
 fn push_note(note: &mut Bytes, alloc: Global, report: &Report) -> Result<(), CaseFault> {
-    match report.fault {
+    match &report.fault {
         None => Ok(note.extend_from_slice(b"none")?),
         Some(fault) => {
             let line = format!(in alloc; "{fault}")?;

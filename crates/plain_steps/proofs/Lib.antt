@@ -1,6 +1,7 @@
 pub mod Copies
 pub mod FileReplies
 pub mod KeptSizes
+pub mod Marks
 pub mod RomLists
 pub mod RomTexts
 pub mod Started

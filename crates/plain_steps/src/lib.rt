@@ -9,6 +9,7 @@
 mod plain_fault;
 mod roms;
 mod start;
+mod taking;
 mod world;
 
 pub use plain_fault::PlainFault;

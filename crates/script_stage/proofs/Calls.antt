@@ -1,5 +1,5 @@
 -- What a stage's calls come to.
-use Rattle.std.proofs.Common.{◌≡◌, ℕ, ◌-◌, ◌<◌, Bool, true, false, Option, Some, None, Ok, Err, List, [], ◌∷◌, ◌++◌, length, set, get_or, sym, ap, ◌∙◌, subst, arith, append_assoc, length-append}
+use Rattle.std.proofs.Common.{◌≡◌, ℕ, ◌-◌, ◌<◌, Bool, true, false, Option, Some, None, Ok, Err, List, [], ◌∷◌, ◌++◌, length, set, get_or, refl, sym, ap, ◌∙◌, subst, arith, append_assoc, append-nil, length-append}
 use Rattle.std.specs.Prelude.{◌≤◌, ◌^◌, IfNone, IfSome, OnErr, Result, is_none, slice_get}
 use Rattle.std.proofs.lemmas.List.{set-get_or}
 use Rattle.std.specs.Bool.{OnFalse, OnTrue}
@@ -11,17 +11,19 @@ use Rattle.vfs_base.specs.declared.entry.Who.TheVariants as who
 use Rattle.vfs_base.specs.declared.reply.Reply.{Reply}
 use Rattle.vfs_base.specs.declared.step.Step.{Step}
 use Rattle.vfs_model.specs.Turns.{Leaves, Posts, RunOut, Steps, Task}
-use Rattle.vfs_model.specs.declared.world.WorldState.{WorldState}
+use Rattle.step_world.specs.Taking.{Takes}
+use Rattle.step_world.specs.WorldView.{WorldView}
+use Rattle.vfs_model.specs.FaultCounts.{NoneFalls}
+use Rattle.script_stage.proofs.Counting.{falls-then, none-falls}
 use Rattle.script_stage.proofs.Ending.{exit-stops, work-stops}
 use Rattle.script_stage.proofs.Moving.{got-other, got-same, other-place, passes-event, passes-exit, passes-run, posts-line}
 use Rattle.script_stage.proofs.Turning.{IsExit, exit-moves, turn_taken, work-moves}
-use Rattle.script_stage.specs.Scenes.{IsNumber, Scene}
+use Rattle.script_stage.specs.Scenes.{GoesOn, Halts, IsNumber, Scene, Script, with_entry, with_session}
 use Rattle.script_stage.specs.SessionTurns.{StaysThrough, TakesExit, TakesWanted}
 use Rattle.script_stage.specs.Sessions.{FollowsLine, is_through}
-use Rattle.script_stage.specs.Standing.{Breaks, Does, Grows, IsAsking, IsIdle, IsThrough, IsWork, Leads, LeavesAt, OthersStay, StandsAt, Stops, TakesTurn}
+use Rattle.script_stage.specs.Standing.{Breaks, Does, Grows, IsAsking, IsIdle, IsThrough, IsWork, Leads, LeavesAt, OthersStay, Place, StandsAt, Stops, TakesTurn}
 use Rattle.script_stage.specs.declared.phase.Phase.{Phase}
 use Rattle.script_stage.specs.declared.phase.Phase.TheVariants as phase
-use Rattle.script_stage.specs.Taking.{TakesStep}
 use Rattle.script_stage.specs.declared.stage_session.StageSession.{StageSession}
 
 some-same : (a b : StageSession) → Some a ≡ Some b → a ≡ b
@@ -33,27 +35,27 @@ numbered k place e least below = (least, omega (arith, e, least, below))
 
 pub post_done : (old : Scene) (k place : ℕ) (before after : StageSession) (line : List ℕ) → IsNumber k → place ≡ k - 1 →
     slice_get old.sessions place ≡ Some before → FollowsLine before after line →
-    Does old (record { world = old.world; sessions = set old.sessions place after; schedule = old.schedule }) (Posts k line ∷ [])
-post_done old k place before after line n e found follows deck describe tasks handed at =
-    subst (λ i. StandsAt (record { world = old.world; sessions = set old.sessions i after; schedule = old.schedule }) deck describe tasks handed) (sym e)
-    (posts-line old k after line deck describe tasks handed n
+    Does old (with_session old place after) (Posts k line ∷ [])
+post_done old k place before after line n e found follows script tasks handed at =
+    subst (λ i. StandsAt (with_session old i after) script tasks handed) (sym e)
+    (posts-line old k after line script tasks handed n
     (λ p f. (let same : before ≡ p = some-same before p (sym found ∙ ap (slice_get old.sessions) e ∙ f) in subst (λ x. FollowsLine x after line) same follows)) at)
 
-pub exit_taken : (old new : Scene) (next : WorldState) (k place : ℕ) (before after : StageSession) (m : Mark) → place ≡ k - 1 → IsExit old next k before after m →
-    new ≡ record { world = next; sessions = set old.sessions place after; schedule = old.schedule ++ record { who = who.Session k; mark = m } ∷ [] } →
+pub exit_taken : (old new : Scene) (next : WorldView) (k place : ℕ) (before after : StageSession) (m : Mark) → place ≡ k - 1 → IsExit old next k before after m →
+    new ≡ with_entry old next (set old.sessions place after) (record { who = who.Session k; mark = m }) →
     Leads LeavesAt old new (Leaves k ∷ []) (Leaves k ∷ [])
-exit_taken old new next k place before after m e exit is deck describe tasks handed at =
-    subst (λ x. LeavesAt x deck describe (Leaves k ∷ tasks) handed)
-    (ap (λ i. record { world = next; sessions = set old.sessions i after; schedule = old.schedule ++ record { who = who.Session k; mark = m } ∷ [] }) (sym e) ∙ sym is)
-    (exit-moves old next k before after m deck describe tasks handed exit at)
+exit_taken old new next k place before after m e exit is script tasks handed at =
+    subst (λ x. LeavesAt x script (Leaves k ∷ tasks) handed)
+    (ap (λ i. with_entry old next (set old.sessions i after) (record { who = who.Session k; mark = m })) (sym e) ∙ sym is)
+    (exit-moves old next k before after m exit script tasks handed at)
 
-pub work_taken : (old new : Scene) (next : WorldState) (asker : Who) (asked : Step) (m : Mark) (reply : Reply) → IsWork asker asked →
-    TakesStep old.world next asker asked (reply, m) →
-    new ≡ record { world = next; sessions = old.sessions; schedule = old.schedule ++ record { who = asker; mark = m } ∷ [] } →
+pub work_taken : (old new : Scene) (next : WorldView) (asker : Who) (asked : Step) (m : Mark) (reply : Reply) → IsWork asker asked →
+    Takes old.view next asker asked (reply, m) →
+    new ≡ with_entry old next old.sessions (record { who = asker; mark = m }) →
     Does old new (Steps asker ∷ [])
-work_taken old new next asker asked m reply work takes is deck describe tasks handed at =
-    subst (λ x. StandsAt x deck describe tasks handed) (sym is)
-    (work-moves old next asker asked m reply deck describe tasks handed work takes at)
+work_taken old new next asker asked m reply work takes is script tasks handed at =
+    subst (λ x. StandsAt x script tasks handed) (sym is)
+    (work-moves old next asker asked (reply, m) work takes script tasks handed at)
 
 pub others_stay : (old new : List StageSession) (k place : ℕ) (p : StageSession) → IsNumber k → place ≡ k - 1 → length old ≡ 8 → new ≡ set old place p → OthersStay old new k
 others_stay old new k place p n e count is j r o =
@@ -61,23 +63,23 @@ others_stay old new k place p n e count is j r o =
     ∙ got-other old (k - 1) (j - 1) p (other-place k j n r o) (omega (arith, r.0, r.1, count))
 
 -- what is not there of the schedule is of no earlier moment
-pub breaks_off : (old new : Scene) (undone : List Task) → new.schedule ≡ old.schedule → Breaks old new undone
-breaks_off old new undone e deck describe tasks handed at = work-stops old new deck describe (undone ++ tasks) handed e at
+pub breaks_off : (old new : Scene) (undone : List Task) → Halts old new → Breaks old new undone
+breaks_off old new undone halts script tasks handed at = work-stops old new script (undone ++ tasks) handed halts at
 
-pub leaves_off : (old new : Scene) (undone : List Task) → new.schedule ≡ old.schedule → Stops LeavesAt old new undone
-leaves_off old new undone e deck describe tasks handed at = exit-stops old new deck describe (undone ++ tasks) handed e at
+pub leaves_off : (old new : Scene) (undone : List Task) → Halts old new → Stops LeavesAt old new undone
+leaves_off old new undone halts script tasks handed at = exit-stops old new script (undone ++ tasks) handed halts at
 
 -- running out is done where nothing is pending any more
 pub run_done : (a b : Scene) (k : ℕ) → IsNumber k → IsIdle b.sessions k → Leads StandsAt a b (RunOut k ∷ []) (RunOut k ∷ []) → Does a b (RunOut k ∷ [])
-run_done a b k n idle leads deck describe tasks handed at =
-    passes-run b k deck describe tasks handed n idle (leads deck describe tasks handed at)
+run_done a b k n idle leads script tasks handed at =
+    passes-run b k script tasks handed n idle (leads script tasks handed at)
 
 pub event_passed : (a : Scene) (k : ℕ) → IsNumber k → IsIdle a.sessions k → Does a a (Steps (who.Session k) ∷ [])
-event_passed a k n idle deck describe tasks handed at = passes-event a k deck describe tasks handed n idle at
+event_passed a k n idle script tasks handed at = passes-event a k script tasks handed n idle at
 
 pub exits_done : (a b : Scene) (k : ℕ) → IsNumber k → IsThrough b.sessions k → Leads LeavesAt a b (Leaves k ∷ []) (Leaves k ∷ []) → Leads LeavesAt a b (Leaves k ∷ []) []
-exits_done a b k n through leads deck describe tasks handed at =
-    passes-exit b k deck describe tasks handed n through (leads deck describe tasks handed at)
+exits_done a b k n through leads script tasks handed at =
+    passes-exit b k script tasks handed n through (leads script tasks handed at)
 
 pub err_of : {T E P : Type 0} (r : Result T E) → P → OnErr r P
 err_of (Ok x) p = tt
@@ -112,9 +114,9 @@ found_at all k place before e h count is = subst (λ i. slice_get all i ≡ Some
 -- a call that posts a line
 pub post_call : (now old : Scene) (k place : ℕ) (before after : StageSession) (line : List ℕ) → old ≡ now → IsNumber k → place ≡ k - 1 → place < 8 →
     length old.sessions ≡ 8 → before ≡ get_or old.sessions place before → FollowsLine before after line →
-    Does now (record { world = old.world; sessions = set old.sessions place after; schedule = old.schedule }) (Posts k line ∷ [])
+    Does now (with_session old place after) (Posts k line ∷ [])
 post_call now old k place before after line same n e h count is follows =
-    subst (λ s. Does s (record { world = old.world; sessions = set old.sessions place after; schedule = old.schedule }) (Posts k line ∷ [])) same
+    subst (λ s. Does s (with_session old place after) (Posts k line ∷ [])) same
     (post_done old k place before after line n e (slice_get_read old.sessions 8 place before (sym count) h is) follows)
 
 -- the session is at what it is known to be at
@@ -124,10 +126,10 @@ asking_at now old k place before same e h count is asking =
     asking before (ap (λ s. slice_get s.sessions (k - 1)) (sym same) ∙ found_at old.sessions k place before e h count is)
 
 -- a call that takes a pending command's step
-pub turn_call : (now old new : Scene) (next : WorldState) (k place : ℕ) (before after : StageSession) (m : Mark) → old ≡ now → IsNumber k →
+pub turn_call : (now old new : Scene) (next : WorldView) (k place : ℕ) (before after : StageSession) (m : Mark) → old ≡ now → IsNumber k →
     place ≡ k - 1 → place < 8 → length old.sessions ≡ 8 → before ≡ get_or old.sessions place before → IsAsking now.sessions k →
-    TakesWanted before after old.world next k m →
-    new ≡ record { world = next; sessions = set old.sessions place after; schedule = old.schedule ++ record { who = who.Session k; mark = m } ∷ [] } →
+    TakesWanted before after old.view next k m →
+    new ≡ with_entry old next (set old.sessions place after) (record { who = who.Session k; mark = m }) →
     TakesTurn now new k
 turn_call now old new next k place before after m same n e h count is asking taken new-is =
     subst (λ s. TakesTurn s new k) same
@@ -139,18 +141,18 @@ turn_call now old new next k place before after m same n e h count is asking tak
     }) new-is)
 
 -- a call that makes an exit step
-pub exit_call : (now old new : Scene) (next : WorldState) (k place : ℕ) (before after : StageSession) (m : Mark) → old ≡ now → IsNumber k →
-    place ≡ k - 1 → place < 8 → length old.sessions ≡ 8 → before ≡ get_or old.sessions place before → TakesExit before after old.world next k m →
-    new ≡ record { world = next; sessions = set old.sessions place after; schedule = old.schedule ++ record { who = who.Session k; mark = m } ∷ [] } →
+pub exit_call : (now old new : Scene) (next : WorldView) (k place : ℕ) (before after : StageSession) (m : Mark) → old ≡ now → IsNumber k →
+    place ≡ k - 1 → place < 8 → length old.sessions ≡ 8 → before ≡ get_or old.sessions place before → TakesExit before after old.view next k m →
+    new ≡ with_entry old next (set old.sessions place after) (record { who = who.Session k; mark = m }) →
     Leads LeavesAt now new (Leaves k ∷ []) (Leaves k ∷ [])
 exit_call now old new next k place before after m same n e h count is taken new-is =
     subst (λ s. Leads LeavesAt s new (Leaves k ∷ []) (Leaves k ∷ [])) same
     (exit_taken old new next k place before after m e (record { number = n; found = found_at old.sessions k place before e h count is; taken = taken }) new-is)
 
 -- a call of the worker
-pub work_call : (now old new : Scene) (next : WorldState) (asker : Who) (asked : Step) (m : Mark) (reply : Reply) → old ≡ now → IsWork asker asked →
-    TakesStep old.world next asker asked (reply, m) →
-    new ≡ record { world = next; sessions = old.sessions; schedule = old.schedule ++ record { who = asker; mark = m } ∷ [] } →
+pub work_call : (now old new : Scene) (next : WorldView) (asker : Who) (asked : Step) (m : Mark) (reply : Reply) → old ≡ now → IsWork asker asked →
+    Takes old.view next asker asked (reply, m) →
+    new ≡ with_entry old next old.sessions (record { who = asker; mark = m }) →
     Does now new (Steps asker ∷ [])
 work_call now old new next asker asked m reply same work takes is =
     subst (λ s. Does s new (Steps asker ∷ [])) same (work_taken old new next asker asked m reply work takes is)
@@ -176,12 +178,12 @@ pub not_asking_at : (p : Phase) → p ≡ phase.Idle → p ≡ phase.Asking → 
 not_asking_at p idle asking = let no : phase.Idle ≡ phase.Asking = sym idle ∙ asking in cc
 
 -- a call that finds no exit step left changes nothing
-pub through_call : (now old : Scene) (next : WorldState) (k place : ℕ) (before after : StageSession) → old ≡ now → place ≡ k - 1 → place < 8 → length old.sessions ≡ 8 →
-    before ≡ get_or old.sessions place before → StaysThrough before after old.world next →
-    (record { world = next; sessions = set old.sessions place after; schedule = old.schedule } ≡ now) × IsThrough now.sessions k
+pub through_call : (now old : Scene) (next : WorldView) (k place : ℕ) (before after : StageSession) → old ≡ now → place ≡ k - 1 → place < 8 → length old.sessions ≡ 8 →
+    before ≡ get_or old.sessions place before → StaysThrough before after old.view next →
+    (record old { view = next; sessions = set old.sessions place after } ≡ now) × IsThrough now.sessions k
 through_call now old next k place before after same e h count is stays = (
-  ap (λ w. record { world = w; sessions = set old.sessions place after; schedule = old.schedule }) stays.world
-      ∙ ap (λ all. record { world = old.world; sessions = all; schedule = old.schedule }) (ap (set old.sessions place) (stays.session ∙ is) ∙ set-get_or old.sessions place before) ∙ same,
+  ap (λ v. record old { view = v; sessions = set old.sessions place after }) stays.world
+      ∙ ap (λ all. record old { sessions = all }) (ap (set old.sessions place) (stays.session ∙ is) ∙ set-get_or old.sessions place before) ∙ same,
   λ p found.
       let found-old = found_at old.sessions k place before e h count is in
       let one : before ≡ p = some-same before p (sym found-old ∙ ap (λ s. slice_get s.sessions (k - 1)) same ∙ found) in
@@ -202,29 +204,84 @@ leave_end false now mid new k n e passed leads =
     subst (λ s. Leads LeavesAt now s (Leaves k ∷ []) []) (sym passed.0) (exits_done now mid k n passed.1 leads)
 
 -- the schedule is that of the moment to which the tasks were led
-pub stops_behind : (now mid new : Scene) (before after : List Task) → new.schedule ≡ mid.schedule → Leads StandsAt now mid before after → Breaks now new before
-stops_behind now mid new before after e leads deck describe tasks handed at =
-    work-stops mid new deck describe (after ++ tasks) handed e (leads deck describe tasks handed at)
+pub stops_behind : (now mid new : Scene) (before after : List Task) → Halts mid new → Leads StandsAt now mid before after → Breaks now new before
+stops_behind now mid new before after e leads script tasks handed at =
+    work-stops mid new script (after ++ tasks) handed e (leads script tasks handed at)
 
-pub leaves_behind : (now mid new : Scene) (before after : List Task) → new.schedule ≡ mid.schedule → Leads LeavesAt now mid before after → Stops LeavesAt now new before
-leaves_behind now mid new before after e leads deck describe tasks handed at =
-    exit-stops mid new deck describe (after ++ tasks) handed e (leads deck describe tasks handed at)
+pub leaves_behind : (now mid new : Scene) (before after : List Task) → Halts mid new → Leads LeavesAt now mid before after → Stops LeavesAt now new before
+leaves_behind now mid new before after e leads script tasks handed at =
+    exit-stops mid new script (after ++ tasks) handed e (leads script tasks handed at)
 
 -- tasks that were not all done are not all done with more behind them
 pub breaks_first : (a b : Scene) (before more : List Task) → Breaks a b before → Breaks a b (before ++ more)
-breaks_first a b before more breaks deck describe tasks handed at =
-    breaks deck describe (more ++ tasks) handed (subst (λ x. StandsAt a deck describe x handed) (append_assoc before more tasks) at)
+breaks_first a b before more breaks script tasks handed at =
+    breaks script (more ++ tasks) handed (subst (λ x. StandsAt a script x handed) (append_assoc before more tasks) at)
 
 -- tasks are not all done where the first of them are, and the others are not
 pub breaks_then : (a b c : Scene) (before more : List Task) → Does a b before → Breaks b c more → Breaks a c (before ++ more)
-breaks_then a b c before more does breaks deck describe tasks handed at =
-    breaks deck describe tasks handed
-    (does deck describe (more ++ tasks) handed (subst (λ x. StandsAt a deck describe x handed) (append_assoc before more tasks) at))
+breaks_then a b c before more does breaks script tasks handed at =
+    breaks script tasks handed
+    (does script (more ++ tasks) handed (subst (λ x. StandsAt a script x handed) (append_assoc before more tasks) at))
+
+-- what holds where a call took a step
+pub took_of : {P : Type 0} (b : Bool) → b ≡ true → OnTrue b P → P
+took_of true e p = p
+took_of false e p = absurd (cc)
+
+-- tasks are led on and stay
+pub leads_again : (At : Place) (a b c : Scene) (tasks : List Task) → Leads At a b tasks tasks → Leads At b c tasks tasks → Leads At a c tasks tasks
+leads_again At a b c tasks first second = λ script more handed at. second script more handed (first script more handed at)
+
+pub does_then : (a b c : Scene) (before more : List Task) → Does a b before → Does b c more → Does a c (before ++ more)
+does_then a b c before more first second = λ script tasks handed at.
+    second script tasks handed (first script (more ++ tasks) handed (subst (λ x. StandsAt a script x handed) (append_assoc before more tasks) at))
 
 -- a call that puts an entry behind the schedule
-pub grows_call : (now old new : Scene) (next : WorldState) (all : List StageSession) (entry : Entry) → old ≡ now → length new.schedule ≤ 2 ^ 64 →
-    new ≡ record { world = next; sessions = all; schedule = old.schedule ++ entry ∷ [] } → Grows now new
+pub grows_call : (now old new : Scene) (next : WorldView) (all : List StageSession) (entry : Entry) → old ≡ now → length new.schedule ≤ 2 ^ 64 →
+    new ≡ with_entry old next all entry → Grows now new
 grows_call now old new next all entry same room is =
     let longer : length new.schedule ≡ length (old.schedule ++ entry ∷ []) = ap (λ s. length s.schedule) is in
     let before : length old.schedule ≡ length now.schedule = ap (λ s. length s.schedule) same in
     (omega (arith, longer, before, length-append old.schedule (entry ∷ [])), room)
+
+-- nothing was entered
+pub halts_same : (old new : Scene) → new ≡ old → Halts old new
+halts_same old new e = subst (λ x. Halts old x) (sym e) (record { schedule = refl; leaves_at = refl; rising = none-falls old.view.faults })
+
+-- nothing was entered behind what the call began with, though its world may have gone on
+pub halts_call : (now old new : Scene) → old ≡ now → new.schedule ≡ old.schedule → new.leaves_at ≡ old.leaves_at → NoneFalls old.view.faults new.view.faults → Halts now new
+halts_call now old new same schedule leaves rising = subst (λ x. Halts x new) same (record { schedule = schedule; leaves_at = leaves; rising = rising })
+
+-- the world went on, and nothing was entered
+pub halts_entered : (now old new : Scene) (view : WorldView) (all : List StageSession) → old ≡ now → NoneFalls old.view.faults view.faults →
+    new ≡ record old { view = view; sessions = all } → Halts now new
+halts_entered now old new view all same rising is =
+    subst (λ x. Halts now x) (sym is) (halts_call now old (record old { view = view; sessions = all }) same refl refl rising)
+
+pub halts_then : (a b c : Scene) → Halts a b → Halts b c → Halts a c
+halts_then a b c p q = record {
+  schedule = q.schedule ∙ p.schedule;
+  leaves_at = q.leaves_at ∙ p.leaves_at;
+  rising = falls-then a.view.faults b.view.faults c.view.faults p.rising q.rising;
+}
+
+pub goes_halted : (old new : Scene) → Halts old new → GoesOn old new
+goes_halted old new halts = record { later = []; schedule = halts.schedule ∙ sym (append-nil old.schedule); leaves_at = halts.leaves_at }
+
+pub goes_same : (old new : Scene) → new ≡ old → GoesOn old new
+goes_same old new e = goes_halted old new (halts_same old new e)
+
+pub goes_then : (a b c : Scene) → GoesOn a b → GoesOn b c → GoesOn a c
+goes_then a b c p q = record {
+  later = p.later ++ q.later;
+  schedule = q.schedule ∙ ap (λ l. l ++ q.later) p.schedule ∙ append_assoc a.schedule p.later q.later;
+  leaves_at = q.leaves_at ∙ p.leaves_at;
+}
+
+-- a call that puts an entry behind the schedule goes on by it
+pub goes_call : (now old new : Scene) (next : WorldView) (all : List StageSession) (entry : Entry) → old ≡ now → new ≡ with_entry old next all entry → GoesOn now new
+goes_call now old new next all entry same is = record {
+  later = entry ∷ [];
+  schedule = ap (λ s. s.schedule) is ∙ ap (λ s. s.schedule ++ entry ∷ []) same;
+  leaves_at = ap (λ s. s.leaves_at) is ∙ ap (λ s. s.leaves_at) same;
+}

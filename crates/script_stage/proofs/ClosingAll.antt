@@ -1,15 +1,15 @@
 -- All sessions run out and leave, by number, and the end is taken.
-use Rattle.std.proofs.Common.{◌≡◌, ℕ, ◌+◌, ◌<◌, List, [], ◌∷◌, ◌++◌, drop, map, true, refl, ap, subst, arith}
-use Rattle.vfs_base.specs.declared.deck.Deck.{Deck}
-use Rattle.vfs_base.specs.declared.describe.Describe.{Describe}
+use Rattle.std.proofs.Common.{◌≡◌, ℕ, ◌+◌, ◌<◌, Some, None, List, [], ◌∷◌, ◌++◌, drop, take, length, map, true, refl, sym, ap, ap₂, ◌∙◌, subst, arith, append_assoc}
+use Rattle.std.proofs.Math.Seq.{take-append_seam}
+use Rattle.vfs_base.specs.declared.entry.Entry.{Entry}
 use Rattle.vfs_base.specs.declared.entry.Who.TheVariants as who
 use Rattle.vfs_model.specs.ScriptRun.{sessions}
 use Rattle.vfs_model.specs.Turns.{Leaves, RunOut, Steps, Task}
-use Rattle.script_stage.proofs.Ending.{begins-leaving, exit-stops}
+use Rattle.script_stage.proofs.Ending.{begins-leaving, from_here}
 use Rattle.script_stage.proofs.Leading.{each-more, each-stays, leads-all, leads-on, leads-stop, sessions-at}
-use Rattle.script_stage.specs.Scenes.{Scene}
+use Rattle.script_stage.specs.Scenes.{GoesOn, Scene, Script, TellsMore, entries_before}
 use Rattle.script_stage.specs.Sessions.{is_through}
-use Rattle.script_stage.specs.Standing.{Breaks, ClosesAt, Does, EachUpTo, IsIdle, IsThrough, Leads, LeavesAt, OthersStay, StandsAt, Stops, StopsAt, closing_tasks}
+use Rattle.script_stage.specs.Standing.{Breaks, ClosesAt, Does, EachUpTo, IsIdle, IsThrough, Leads, LeavesAt, OthersStay, StandsAt, Stops, StopsAt, closing_tasks, leaving_tasks}
 use Rattle.script_stage.specs.declared.phase.Phase.TheVariants as phase
 use Rattle.script_stage.specs.declared.stage_session.StageSession.{StageSession}
 
@@ -23,7 +23,7 @@ LeftUpTo now mid place =
     Leads LeavesAt now mid (map Leaves sessions) (map Leaves (drop place sessions)) × EachUpTo 8 (IsIdle mid.sessions) × EachUpTo place (IsThrough mid.sessions)
 
 pub run_none : (now : Scene) → RanUpTo now now 0
-run_none now = (λ deck describe tasks handed at. at, λ k n within. absurd (omega (arith, n.0, within)))
+run_none now = (λ script tasks handed at. at, λ k n within. absurd (omega (arith, n.0, within)))
 
 pub run_more : (now mid new : Scene) (place k : ℕ) → place < 8 → k ≡ place + 1 → RanUpTo now mid place → Does mid new (RunOut k ∷ []) →
     IsIdle new.sessions k → OthersStay mid.sessions new.sessions k → RanUpTo now new (place + 1)
@@ -46,7 +46,7 @@ run_whole now mid place e ran = (
 )
 
 pub leave_none : (now : Scene) → EachUpTo 8 (IsIdle now.sessions) → LeftUpTo now now 0
-leave_none now idle = (λ deck describe tasks handed at. at, idle, λ k n within. absurd (omega (arith, n.0, within)))
+leave_none now idle = (λ script tasks handed at. at, idle, λ k n within. absurd (omega (arith, n.0, within)))
 
 pub leave_more : (now mid new : Scene) (place k : ℕ) → place < 8 → k ≡ place + 1 → LeftUpTo now mid place → Leads LeavesAt mid new (Leaves k ∷ []) [] →
     IsThrough new.sessions k → IsIdle new.sessions k → OthersStay mid.sessions new.sessions k → LeftUpTo now new (place + 1)
@@ -74,31 +74,55 @@ leave_whole now mid place e left = (
 pub idle_of : (all : List StageSession) (place k : ℕ) → place < 8 → k ≡ place + 1 → EachUpTo 8 (IsIdle all) → IsIdle all k
 idle_of all place k h e idle = idle k (omega (arith, h, e), omega (arith, h, e)) (omega (arith, h, e))
 
--- what is to be done when all pending commands are run out
-abbrev pub leaving_tasks : List Task
-leaving_tasks = map Leaves sessions ++ Steps who.End ∷ []
+-- the sessions begin to leave
+pub leaves_from : (a new : Scene) → EachUpTo 8 (IsIdle a.sessions) → new ≡ from_here a →
+    (script : Script) (handed : List ℕ) → StandsAt a script leaving_tasks handed → LeavesAt new script leaving_tasks handed
+leaves_from a new idle is script handed at =
+    subst (λ x. LeavesAt x script leaving_tasks handed) (sym is) (begins-leaving a script leaving_tasks handed (λ k n. idle k n n.1) (λ k. refl) at)
 
-leaves-from : (a : Scene) (deck : Deck) (describe : Describe) (handed : List ℕ) → EachUpTo 8 (IsIdle a.sessions) → StandsAt a deck describe leaving_tasks handed →
-    LeavesAt a deck describe leaving_tasks handed
-leaves-from a deck describe handed idle at = begins-leaving a deck describe leaving_tasks handed (λ k n. idle k n n.1) (λ k. refl) at
+-- from the scene at which all commands are run out to the one at which the sessions begin to leave
+abbrev pub BeginsLeaving : Scene → Scene → Type 0
+BeginsLeaving a b = (script : Script) (handed : List ℕ) → StandsAt a script leaving_tasks handed → LeavesAt b script leaving_tasks handed
 
-pub close_done : (now a b new : Scene) → Does now a (map RunOut sessions) → EachUpTo 8 (IsIdle a.sessions) → Leads LeavesAt a b (map Leaves sessions) [] →
-    ((deck : Deck) (describe : Describe) (handed : List ℕ) → LeavesAt b deck describe (Steps who.End ∷ []) handed → ClosesAt new deck describe handed) →
-    (deck : Deck) (describe : Describe) (handed : List ℕ) → StandsAt now deck describe closing_tasks handed → ClosesAt new deck describe handed
-close_done now a b new runs idle leaves ends deck describe handed at =
-    ends deck describe handed (leaves deck describe (Steps who.End ∷ []) handed (leaves-from a deck describe handed idle (runs deck describe leaving_tasks handed at)))
+pub close_done : (now a b c new : Scene) → Does now a (map RunOut sessions) → BeginsLeaving a b → Leads LeavesAt b c (map Leaves sessions) [] →
+    ((script : Script) (handed : List ℕ) → LeavesAt c script (Steps who.End ∷ []) handed → ClosesAt new script handed) →
+    (script : Script) (handed : List ℕ) → StandsAt now script closing_tasks handed → ClosesAt new script handed
+close_done now a b c new runs begins leaves ends script handed at =
+    ends script handed (leaves script (Steps who.End ∷ []) handed (begins script handed (runs script leaving_tasks handed at)))
 
 pub close_unrun : (now a : Scene) → Breaks now a (map RunOut sessions) →
-    (deck : Deck) (describe : Describe) (handed : List ℕ) → StandsAt now deck describe closing_tasks handed → StopsAt a deck describe handed
-close_unrun now a breaks deck describe handed at = breaks deck describe leaving_tasks handed at
+    (script : Script) (handed : List ℕ) → StandsAt now script closing_tasks handed → StopsAt a script handed
+close_unrun now a breaks script handed at = breaks script leaving_tasks handed at
 
-pub close_unleft : (now a b : Scene) → Does now a (map RunOut sessions) → EachUpTo 8 (IsIdle a.sessions) → Stops LeavesAt a b (map Leaves sessions) →
-    (deck : Deck) (describe : Describe) (handed : List ℕ) → StandsAt now deck describe closing_tasks handed → StopsAt b deck describe handed
-close_unleft now a b runs idle stops deck describe handed at =
-    stops deck describe (Steps who.End ∷ []) handed (leaves-from a deck describe handed idle (runs deck describe leaving_tasks handed at))
+pub close_unleft : (now a b c : Scene) → Does now a (map RunOut sessions) → BeginsLeaving a b → Stops LeavesAt b c (map Leaves sessions) →
+    (script : Script) (handed : List ℕ) → StandsAt now script closing_tasks handed → StopsAt c script handed
+close_unleft now a b c runs begins stops script handed at =
+    stops script (Steps who.End ∷ []) handed (begins script handed (runs script leaving_tasks handed at))
 
-pub close_unended : (now a b new : Scene) → Does now a (map RunOut sessions) → EachUpTo 8 (IsIdle a.sessions) → Leads LeavesAt a b (map Leaves sessions) [] → new ≡ b →
-    (deck : Deck) (describe : Describe) (handed : List ℕ) → StandsAt now deck describe closing_tasks handed → StopsAt new deck describe handed
-close_unended now a b new runs idle leaves e deck describe handed at =
-    exit-stops b new deck describe (Steps who.End ∷ []) handed (ap (λ s. s.schedule) e)
-    (leaves deck describe (Steps who.End ∷ []) handed (leaves-from a deck describe handed idle (runs deck describe leaving_tasks handed at)))
+pub close_unended : (now a b c new : Scene) → Does now a (map RunOut sessions) → BeginsLeaving a b → Leads LeavesAt b c (map Leaves sessions) [] → new ≡ c →
+    (script : Script) (handed : List ℕ) → StandsAt now script closing_tasks handed → StopsAt new script handed
+close_unended now a b c new runs begins leaves e script handed at =
+    subst (λ s. StopsAt s script handed) (sym e) (leaves script (Steps who.End ∷ []) handed (begins script handed (runs script leaving_tasks handed at))).stops
+
+-- the entries so far, where the sessions have begun to leave behind some of them
+told-front : (now new : Scene) (front later more : List Entry) (count : ℕ) → new.leaves_at ≡ Some count → count ≡ length front → front ≡ now.schedule ++ later →
+    new.schedule ≡ front ++ more → TellsMore now new
+told-front now new front later more count leaves = λ e f g. record {
+  later = later ++ more;
+  schedule = g ∙ ap (λ l. l ++ more) f ∙ append_assoc now.schedule later more;
+  more = later;
+  told = ap (λ x. entries_before x new.schedule) leaves ∙ ap₂ take e g ∙ take-append_seam front more ∙ f;
+}
+
+pub tells_unrun : (now new : Scene) → now.leaves_at ≡ None → GoesOn now new → TellsMore now new
+tells_unrun now new none on = record {
+  later = on.later;
+  schedule = on.schedule;
+  more = on.later;
+  told = ap (λ x. entries_before x new.schedule) (on.leaves_at ∙ none) ∙ on.schedule;
+}
+
+pub tells_behind : (now a b new : Scene) → GoesOn now a → b.schedule ≡ a.schedule → b.leaves_at ≡ Some (length a.schedule) → GoesOn b new → TellsMore now new
+tells_behind now a b new first same leaves second =
+    told-front now new a.schedule first.later second.later (length a.schedule) (second.leaves_at ∙ leaves) refl first.schedule
+    (second.schedule ∙ ap (λ l. l ++ second.later) same)

@@ -15,20 +15,20 @@ use Rattle.script_stage.specs.declared.stage_session.StageSession.{StageSession}
 -- what is led to a list of tasks is led on past the first of them
 pub leads-on : (At : Place) (a b c : Scene) (all rest later : List Task) (task : Task) → rest ≡ task ∷ later →
     Leads At a b all rest → Leads At b c (task ∷ []) [] → Leads At a c all later
-leads-on At a b c all rest later task e first second deck describe tasks handed at =
-    second deck describe (later ++ tasks) handed
-    (subst (λ x. At b deck describe (x ++ tasks) handed) e (first deck describe tasks handed at))
+leads-on At a b c all rest later task e first second script tasks handed at =
+    second script (later ++ tasks) handed
+    (subst (λ x. At b script (x ++ tasks) handed) e (first script tasks handed at))
 
 -- it stops where the first of them is not done
 pub leads-stop : (At : Place) (a b c : Scene) (all rest later : List Task) (task : Task) → rest ≡ task ∷ later →
     Leads At a b all rest → Stops At b c (task ∷ []) → Stops At a c all
-leads-stop At a b c all rest later task e first second deck describe tasks handed at =
-    second deck describe (later ++ tasks) handed
-    (subst (λ x. At b deck describe (x ++ tasks) handed) e (first deck describe tasks handed at))
+leads-stop At a b c all rest later task e first second script tasks handed at =
+    second script (later ++ tasks) handed
+    (subst (λ x. At b script (x ++ tasks) handed) e (first script tasks handed at))
 
 pub leads-all : (At : Place) (a b : Scene) (all rest : List Task) → rest ≡ [] → Leads At a b all rest → Leads At a b all []
-leads-all At a b all rest e first deck describe tasks handed at =
-    subst (λ x. At b deck describe (x ++ tasks) handed) e (first deck describe tasks handed at)
+leads-all At a b all rest e first script tasks handed at =
+    subst (λ x. At b script (x ++ tasks) handed) e (first script tasks handed at)
 
 -- the events from a place on
 pub events-at : (events : List Who) (i : ℕ) (asker : Who) → i < length events → asker ≡ get_or events i asker →

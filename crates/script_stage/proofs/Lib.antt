@@ -1,5 +1,6 @@
 pub mod Calls
 pub mod ClosingAll
+pub mod Counting
 pub mod Ending
 pub mod Handing
 pub mod Leading
@@ -9,4 +10,5 @@ pub mod Reaching
 pub mod SessionLemmas
 pub mod ShownTexts
 pub mod Starting
+pub mod Stopping
 pub mod Turning

@@ -133,18 +133,6 @@ work-shows p posted more heard handed at =
           ∙ append_assoc handed p.text (concat rest.blocks),
     )
 
--- the same of a session that leaves
-pub more-shows : (p : StageSession) (posted more : List (List ℕ)) (heard : List Reply) (handed : List ℕ) → AtExit p posted heard handed →
-    (later : List ℕ) × (concat (session_run (posted ++ more) heard).blocks ≡ handed ++ later)
-more-shows p posted more heard handed at =
-    let rest = session_rest p.session more at.replies in
-    let run : session_run (posted ++ more) heard ≡ blocks_before at.blocks rest =
-    ap (session_run (posted ++ more)) at.parts ∙ at.leaves.follows.goes_on more at.replies in (
-      p.text ++ concat rest.blocks,
-      ap (λ r. concat r.blocks) run ∙ concat-append at.blocks rest.blocks ∙ ap (λ x. x ++ concat rest.blocks) at.text
-          ∙ append_assoc handed p.text (concat rest.blocks),
-    )
-
 -- a session whose text is handed out
 pub hands-work : (old new : StageSession) (posted : List (List ℕ)) (heard : List Reply) (handed : List ℕ) → new.session ≡ old.session → new.phase ≡ old.phase →
     new.text ≡ [] → AtWork old posted heard handed → AtWork new posted heard (handed ++ old.text)

@@ -8,10 +8,9 @@ use Rattle.vfs_base.specs.declared.deck.Act.{Act}
 use Rattle.vfs_base.specs.declared.deck.Act.TheVariants as act
 use Rattle.vfs_base.specs.declared.deck.Deck.{Deck}
 use Rattle.vfs_base.specs.declared.deck.RomText.{RomText}
-use Rattle.vfs_base.specs.declared.describe.Describe.{Describe}
 use Rattle.vfs_model.specs.ScriptRun.{RunState, sessions, state_after}
 use Rattle.vfs_model.specs.Transcript.{has_lines, session_text, session_title, sessions_text}
-use Rattle.script_stage.specs.Scenes.{Scene}
+use Rattle.script_stage.specs.Scenes.{Scene, Script}
 use Rattle.script_stage.specs.Standing.{ClosesAt}
 use Rattle.script_stage.specs.Texts.{has_line, titled_text, titled_texts}
 use Rattle.script_stage.specs.declared.stage_session.StageSession.{StageSession}
@@ -59,25 +58,25 @@ some-state a b e = cc
 some-session : (a b : StageSession) → Some a ≡ Some b → a ≡ b
 some-session a b e = cc
 
-pub shows-all : (scene : Scene) (deck : Deck) (describe : Describe) (s : RunState) → ClosesAt scene deck describe [] → state_after deck describe scene.schedule ≡ Some s →
-    titled_texts 1 deck.acts scene.sessions ≡ sessions_text deck s
-shows-all scene deck describe s at e =
-    texts-from deck s 1 scene.sessions texts
-    ∙ ap (λ n. flat_map (shown_by deck s) (range_with_len 1 n)) at.count
-    ∙ sym (joined-filter (has_lines deck) (λ k. session_title k ++ session_text deck s k) sessions)
+pub shows-all : (scene : Scene) (script : Script) (s : RunState) → ClosesAt scene script [] → state_after script.deck script.describe scene.schedule ≡ Some s →
+    titled_texts 1 script.deck.acts scene.sessions ≡ sessions_text script.deck s
+shows-all scene script s at e =
+    texts-from script.deck s 1 scene.sessions texts
+    ∙ ap (λ n. flat_map (shown_by script.deck s) (range_with_len 1 n)) at.count
+    ∙ sym (joined-filter (has_lines script.deck) (λ k. session_title k ++ session_text script.deck s k) sessions)
   where
     none-handed : (b : Bool) (text : List ℕ) → cond b [] [] ++ text ≡ text
     none-handed true text = refl
     none-handed false text = refl
 
-    texts : (i : ℕ) (p : StageSession) → slice_get scene.sessions i ≡ Some p → p.text ≡ session_text deck s (1 + i)
+    texts : (i : ℕ) (p : StageSession) → slice_get scene.sessions i ≡ Some p → p.text ≡ session_text script.deck s (1 + i)
     texts i p found =
         let within : i < length scene.sessions = slice_get_within scene.sessions i p found in
         let before : (1 + i) - 1 ≡ i = omega arith in
         let a = at.each (1 + i) (omega arith, omega (arith, at.count)) in
         let same : a.session ≡ p = some-session a.session p (sym a.found ∙ ap (slice_get scene.sessions) before ∙ found) in
         let state : at.s ≡ s = some-state at.s s (sym at.taken ∙ e) in
-        ap (λ x. x.text) (sym same) ∙ sym (none-handed ((1 + i) == 1) a.session.text) ∙ sym a.shown ∙ ap (λ x. session_text deck x (1 + i)) state
+        ap (λ x. x.text) (sym same) ∙ sym (none-handed ((1 + i) == 1) a.session.text) ∙ sym a.shown ∙ ap (λ x. session_text script.deck x (1 + i)) state
 
 -- one more session's text stands there
 pub texts_more : (place number : ℕ) (acts : List Act) (all : List StageSession) (p : StageSession) (text out more whole : List ℕ) → place < length all → p ≡ get_or all place p →

@@ -3,5 +3,4 @@ pub mod Scenes
 pub mod SessionTurns
 pub mod Sessions
 pub mod Standing
-pub mod Taking
 pub mod Texts

@@ -1,20 +1,64 @@
 -- What a stage has, and where its schedule leads.
-use Rattle.std.specs.Prelude.{◌≡◌, ℕ, ◌-◌, ◌≤◌, ◌==◌, Some, List, [], ◌∷◌, ◌++◌, slice_index_or, if◌then◌else◌}
+use Rattle.std.specs.Prelude.{◌≡◌, ℕ, ◌-◌, ◌≤◌, ◌==◌, Option, Some, None, List, [], ◌∷◌, ◌++◌, take, slice_index_or, slice_set, if◌then◌else◌}
 use Rattle.std.specs.List.{flat_map}
 use Rattle.vfs_base.specs.declared.deck.Deck.{Deck}
 use Rattle.vfs_base.specs.declared.describe.Describe.{Describe}
 use Rattle.vfs_base.specs.declared.entry.Entry.{Entry}
 use Rattle.vfs_base.specs.declared.limits.TheConstants.{SESSIONS}
+use Rattle.vfs_model.specs.FaultCounts.{ByDevice, NoneFalls}
 use Rattle.vfs_model.specs.ScriptRun.{RunState, opening_state, state_after}
 use Rattle.vfs_model.specs.Turns.{Posts, RunOut, Steps, Leaves, Task, keeps_turns, opening_agenda}
-use Rattle.vfs_model.specs.declared.world.WorldState.{WorldState}
+use Rattle.step_world.specs.WorldView.{WorldView}
 use Rattle.script_stage.specs.declared.stage_session.StageSession.{StageSession}
 
--- The world, the sessions by number, and the schedule so far.
+-- A script, the devices that it is run on, and the faults that these had counted before.
+pub record Script : Type 0 where
+  pub deck : Deck
+  pub describe : Describe
+  pub counted : ByDevice
+
+-- What is seen of the world, the sessions by number, and the schedule so far.
 pub record Scene : Type 0 where
-  pub world : WorldState
+  pub view : WorldView
   pub sessions : List StageSession
   pub schedule : List Entry
+  -- how many entries there were when the sessions began to leave
+  pub leaves_at : Option ℕ
+
+abbrev pub entries_before : Option ℕ → List Entry → List Entry
+entries_before None schedule = schedule
+entries_before (Some count) schedule = take count schedule
+
+-- the entries before those by which the sessions leave: what is told of a run that ends early
+abbrev pub told_entries : Scene → List Entry
+told_entries scene = entries_before scene.leaves_at scene.schedule
+
+-- Entries were added behind those that there were.
+pub record GoesOn (old new : Scene) : Type 0 where
+  pub later : List Entry
+  pub schedule : new.schedule ≡ old.schedule ++ later
+  pub leaves_at : new.leaves_at ≡ old.leaves_at
+
+-- The same, and what is told early goes on behind them too.
+pub record TellsMore (old new : Scene) : Type 0 where
+  pub later : List Entry
+  pub schedule : new.schedule ≡ old.schedule ++ later
+  pub more : List Entry
+  pub told : told_entries new ≡ old.schedule ++ more
+
+-- a session is another one
+abbrev pub with_session : Scene → ℕ → StageSession → Scene
+with_session scene place session = record scene { sessions = slice_set scene.sessions place session }
+
+-- the world took a step, and its entry is the last one
+abbrev pub with_entry : Scene → WorldView → List StageSession → Entry → Scene
+with_entry scene view sessions entry = record scene { view = view; sessions = sessions; schedule = scene.schedule ++ entry ∷ [] }
+
+-- no entry was added
+pub record Halts (old new : Scene) : Type 0 where
+  pub schedule : new.schedule ≡ old.schedule
+  pub leaves_at : new.leaves_at ≡ old.leaves_at
+  pub rising : NoneFalls old.view.faults new.view.faults
 
 -- the number of a session
 abbrev pub IsNumber : ℕ → Type 0

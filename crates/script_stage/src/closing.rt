@@ -1,49 +1,88 @@
 //! How a script at work ends: its sessions leave, and the end is taken.
 
-ghost use Rattle.std.specs.Prelude.{◌≡◌, ◌≢◌, ◌+◌, ◌<◌, ℕ, [], ◌∷◌, List, length, map, IfOk, IfNone, IfSome, OnOk, OnErr};
+ghost use Rattle.std.specs.Prelude.{◌≡◌, ◌≢◌, ◌+◌, ◌<◌, ℕ, None, Some, [], ◌∷◌, List, length, map, IfOk, IfNone, IfSome, OnOk, OnErr};
 ghost use Rattle.std.specs.Bool.{OnFalse, OnTrue};
-ghost use Rattle.vfs_base.specs.declared.deck.Deck.{Deck as AnyDeck};
-ghost use Rattle.vfs_base.specs.declared.describe.Describe.{Describe as AnyDescribe};
+ghost use Rattle.vfs_model.specs.FaultCounts.{NoneFalls};
 ghost use Rattle.vfs_model.specs.ScriptRun.{sessions};
 ghost use Rattle.vfs_model.specs.Turns.{Leaves, RunOut, Steps};
 ghost use Rattle.msh_session.specs.SessionTalks.{exits_left};
-ghost use Rattle.script_stage.specs.Scenes.{IsNumber};
+ghost use Rattle.script_stage.specs.Scenes.{GoesOn, Halts, IsNumber, Script, TellsMore, told_entries};
 ghost use Rattle.script_stage.specs.SessionTurns.{StaysThrough, TakesExit};
-ghost use Rattle.script_stage.specs.Standing.{Breaks, ClosesAt, Does, EachUpTo, Grows, IsIdle, IsThrough, Leads, LeavesAt, OthersStay, StandsAt, Stops, StopsAt, closing_tasks};
+ghost use Rattle.script_stage.specs.Standing.{Breaks, ClosesAt, Does, EachUpTo, Grows, IsIdle, IsThrough, Leads, LeavesAt, OthersStay, StandsAt, Stops, StopsAt, TookEnd, closing_tasks, leaving_tasks};
 
 use crate::phase::Phase;
 use crate::stage::Stage;
 use crate::stage_session::StageSession;
-use crate::step_world::StepWorld;
 use std::alloc::Global;
+use step_world::StepWorld;
 use vfs_base::{Entry, List, Mark, NoMemory, SESSIONS, SessionId, Step, Who};
 
+/// A script that is over: its world, and what is told of its schedule.
+#[derive(Drop)]
+pub struct Ended<W: StepWorld> {
+    pub world: W,
+    pub schedule: List<Entry>,
+}
+
 impl<W: StepWorld> Stage<W> {
-    /// Runs all pending commands to their ends, has each session leave, by number, and takes the end.
+    /// Runs all pending commands to their ends, has each session leave, by number, and takes the end. The answer
+    /// is the end's mark: `Fault` where a device failed on the way home.
     ///
     /// # Errors
     /// `NoMemory`, as of `run_line`; the end is then not taken.
-    pub fn close(&mut self, alloc: Global) -> Result<(), NoMemory>
-        ensures ok { OnOk result ((deck : AnyDeck) (describe : AnyDescribe) (handed : List ℕ) →
-            StandsAt self.old deck describe closing_tasks handed → ClosesAt self.new deck describe handed) }
-        ensures err { OnErr result ((deck : AnyDeck) (describe : AnyDescribe) (handed : List ℕ) →
-            StandsAt self.old deck describe closing_tasks handed → StopsAt self.new deck describe handed) }
+    pub fn close(&mut self, alloc: Global) -> Result<Mark, NoMemory>
+        ensures ok { OnOk result ((script : Script) (handed : List ℕ) →
+            StandsAt self.old script closing_tasks handed → ClosesAt self.new script handed) }
+        ensures took { IfOk result (TookEnd self.new.view) }
+        ensures err { OnErr result ((script : Script) (handed : List ℕ) →
+            StandsAt self.old script closing_tasks handed → StopsAt self.new script handed) }
+        ensures goes_on { self.old.leaves_at ≡ None → TellsMore self.old self.new }
     {
         self.run_all(alloc)?;
+        self.begin_leaving();
         self.leave_all(alloc)?;
         self.end(alloc)
     }
 
+    /// The world and the whole schedule.
+    pub fn finish(self) -> Ended<W>
+        ensures world { W.seen result.world ≡ self.view }
+        ensures schedule { result.schedule ≡ self.schedule }
+    {
+        Ended {
+            world: self.world,
+            schedule: List::from_vec(self.schedule),
+        }
+    }
+
+    /// The world, and the schedule without the entries by which the sessions left and the end was taken.
+    pub fn cut_off(self) -> Ended<W>
+        ensures world { W.seen result.world ≡ self.view }
+        ensures schedule { result.schedule ≡ told_entries self }
+    {
+        let mut schedule = List::from_vec(self.schedule);
+        if let Some(count) = self.leaves_at {
+            schedule.truncate(count);
+        }
+        Ended {
+            world: self.world,
+            schedule,
+        }
+    }
+
     /// After want of memory: gives up the pending commands, has the sessions leave, and takes the end, on
-    /// the world alone and as far as memory goes. The answer is the schedule, without these steps.
-    pub fn give_up(mut self, alloc: Global) -> List<Entry>
-        ensures { result ≡ self.schedule }
+    /// the world alone and as far as memory goes. The schedule is without these steps; beside it stands the end's
+    /// mark, `None` where there was no memory for it.
+    pub fn give_up(mut self, alloc: Global) -> (Ended<W>, Option<Mark>)
+        ensures schedule { result.0.schedule ≡ told_entries self }
+        ensures rising { NoneFalls self.view.faults (W.seen result.0.world).faults }
+        ensures took { IfSome result.1 (TookEnd (W.seen result.0.world)) }
     {
         for place in 0..SESSIONS {
             self.give_up_session(alloc, session_at(place));
         }
-        let _ = self.world.take(alloc, Who::End, &Step::Shutdown);
-        self.into_schedule()
+        let end = take_end(alloc, &mut self.world);
+        (self.cut_off(), end)
     }
 
     // Runs all pending commands to their ends, by session.
@@ -51,11 +90,24 @@ impl<W: StepWorld> Stage<W> {
         ensures ok { OnOk result (Does self.old self.new (map RunOut sessions)) }
         ensures idle { OnOk result (EachUpTo 8 (IsIdle self.new.sessions)) }
         ensures err { OnErr result (Breaks self.old self.new (map RunOut sessions)) }
+        ensures goes_on { GoesOn self.old self.new }
     {
         for place in 0..SESSIONS {
             self.run_out(alloc, session_at(place))?;
         }
         Ok(())
+    }
+
+    // From here on the entries are those by which the sessions leave.
+    fn begin_leaving(&mut self)
+        requires { EachUpTo 8 (IsIdle self.old.sessions) }
+        ensures leaves { (script : Script) (handed : List ℕ) →
+            StandsAt self.old script leaving_tasks handed → LeavesAt self.new script leaving_tasks handed }
+        ensures sessions { self.new.sessions ≡ self.old.sessions }
+        ensures schedule { self.new.schedule ≡ self.old.schedule }
+        ensures leaves_at { self.new.leaves_at ≡ Some (length self.old.schedule) }
+    {
+        self.leaves_at = Some(self.schedule.len());
     }
 
     // Each session makes its exit steps, by number.
@@ -64,6 +116,7 @@ impl<W: StepWorld> Stage<W> {
         ensures ok { OnOk result (Leads LeavesAt self.old self.new (map Leaves sessions) []) }
         ensures through { OnOk result (EachUpTo 8 (IsThrough self.new.sessions)) }
         ensures err { OnErr result (Stops LeavesAt self.old self.new (map Leaves sessions)) }
+        ensures goes_on { GoesOn self.old self.new }
     {
         for place in 0..SESSIONS {
             self.leave(alloc, session_at(place))?;
@@ -72,6 +125,7 @@ impl<W: StepWorld> Stage<W> {
     }
 
     // The session makes its exit steps.
+    #[tactic(auto, using(crate::proofs::Calls::goes_then))]
     fn leave(&mut self, alloc: Global, k: SessionId) -> Result<(), NoMemory>
         requires { IsIdle self.old.sessions k }
         ensures ok { OnOk result (Leads LeavesAt self.old self.new (Leaves k ∷ []) []) }
@@ -79,6 +133,7 @@ impl<W: StepWorld> Stage<W> {
         ensures idle { IsIdle self.new.sessions k }
         ensures others { OthersStay self.old.sessions self.new.sessions k }
         ensures err { OnErr result (Stops LeavesAt self.old self.new (Leaves k ∷ [])) }
+        ensures goes_on { GoesOn self.old self.new }
     {
         while self.exit(alloc, k)? {}
         Ok(())
@@ -93,7 +148,8 @@ impl<W: StepWorld> Stage<W> {
         ensures number { IsNumber k }
         ensures idle { IsIdle self.new.sessions k }
         ensures others { OthersStay self.old.sessions self.new.sessions k }
-        ensures err { OnErr result (self.new.schedule ≡ self.old.schedule) }
+        ensures err { OnErr result (Halts self.old self.new) }
+        ensures goes_on { GoesOn self.old self.new }
     {
         let session = &mut self.sessions[k.place()];
         let Some(mark) = take_exit(alloc, &mut self.world, session, k)? else {
@@ -104,10 +160,12 @@ impl<W: StepWorld> Stage<W> {
     }
 
     // The end is taken. The room for its entry comes first, so that nothing fails behind it.
-    fn end(&mut self, alloc: Global) -> Result<(), NoMemory>
+    fn end(&mut self, alloc: Global) -> Result<Mark, NoMemory>
         requires { EachUpTo 8 (IsThrough self.old.sessions) }
-        ensures ok { OnOk result ((deck : AnyDeck) (describe : AnyDescribe) (handed : List ℕ) →
-            LeavesAt self.old deck describe (Steps Who.End ∷ []) handed → ClosesAt self.new deck describe handed) }
+        ensures ok { OnOk result ((script : Script) (handed : List ℕ) →
+            LeavesAt self.old script (Steps Who.End ∷ []) handed → ClosesAt self.new script handed) }
+        ensures took { IfOk result (TookEnd self.new.view) }
+        ensures goes_on { GoesOn self.old self.new }
         ensures err { OnErr result (self.new ≡ self.old) }
     {
         self.schedule.reserve(1)?;
@@ -116,12 +174,12 @@ impl<W: StepWorld> Stage<W> {
             who: Who::End,
             mark: taken.1,
         });
-        Ok(())
+        Ok(taken.1)
     }
 
     // Gives up the session's pending command, and has it leave without entries.
     fn give_up_session(&mut self, alloc: Global, k: SessionId)
-        ensures { self.new.schedule ≡ self.old.schedule }
+        ensures { Halts self.old self.new }
     {
         let session = &mut self.sessions[k.place()];
         session.abandon();
@@ -137,9 +195,10 @@ fn take_exit<W: StepWorld>(
     k: SessionId,
 ) -> Result<Option<Mark>, NoMemory>
     requires { session.old.phase ≢ Phase.Asking }
-    ensures took { IfOk result (λ took. IfSome took (TakesExit session.old session.new (W.world world.old) (W.world world.new) k)) }
-    ensures through { IfOk result (λ took. IfNone took (StaysThrough session.old session.new (W.world world.old) (W.world world.new))) }
+    ensures took { IfOk result (λ took. IfSome took (TakesExit session.old session.new (W.seen world.old) (W.seen world.new) k)) }
+    ensures through { IfOk result (λ took. IfNone took (StaysThrough session.old session.new (W.seen world.old) (W.seen world.new))) }
     ensures phase { session.new.phase ≡ session.old.phase }
+    ensures err { OnErr result (W.seen world.new ≡ W.seen world.old) }
 {
     let Some(step) = session.exit_step() else {
         return Ok(None);
@@ -147,6 +206,17 @@ fn take_exit<W: StepWorld>(
     let taken = world.take(alloc, Who::Session { k }, &step)?;
     session.exited();
     Ok(Some(taken.1))
+}
+
+// Takes the end, if memory allows, and answers its mark.
+fn take_end<W: StepWorld>(alloc: Global, world: &mut W) -> Option<Mark>
+    ensures took { IfSome result (TookEnd (W.seen world.new)) }
+    ensures rising { NoneFalls (W.seen world.old).faults (W.seen world.new).faults }
+{
+    match world.take(alloc, Who::End, &Step::Shutdown) {
+        Ok(taken) => Some(taken.1),
+        Err(_) => None,
+    }
 }
 
 // The session makes its exit steps, as far as memory goes, without entries.
@@ -157,6 +227,7 @@ fn leave_unseen<W: StepWorld>(
     k: SessionId,
 )
     requires { session.old.phase ≢ Phase.Asking }
+    ensures rising { NoneFalls (W.seen world.old).faults (W.seen world.new).faults }
 {
     'exits: while exit_unseen(alloc, world, session, k) {}
 }
@@ -171,13 +242,21 @@ fn exit_unseen<W: StepWorld>(
     requires { session.old.phase ≢ Phase.Asking }
     ensures phase { session.new.phase ≡ session.old.phase }
     ensures fewer { OnTrue result (length (exits_left session.new.session) < length (exits_left session.old.session)) }
+    ensures rising { NoneFalls (W.seen world.old).faults (W.seen world.new).faults }
 {
     let Some(step) = session.exit_step() else {
         return false;
     };
-    let _ = world.take(alloc, Who::Session { k }, &step);
+    take_unseen(alloc, world, k, &step);
     session.exited();
     true
+}
+
+// Takes the step, if memory allows.
+fn take_unseen<W: StepWorld>(alloc: Global, world: &mut W, k: SessionId, step: &Step)
+    ensures rising { NoneFalls (W.seen world.old).faults (W.seen world.new).faults }
+{
+    let _ = world.take(alloc, Who::Session { k }, step);
 }
 
 // The session at a place among all.

@@ -2,7 +2,7 @@
 //!
 //! A contract sees a `Stage` as a `Scene`, and says of it which tasks of a script are done and which are
 //! to be done (`vfs_model`'s `Turns`). It does not know the script: its caller posts lines, takes events
-//! and closes. It knows no file system but by the steps that a world takes.
+//! and closes, and gets the world back with its schedule. It knows no file system but by the steps that a world takes.
 #![tactic(auto)]
 
 mod closing;
@@ -10,7 +10,7 @@ mod phase;
 mod sessions_text;
 mod stage;
 mod stage_session;
-mod step_world;
 
+pub use closing::Ended;
 pub use stage::Stage;
 pub use step_world::StepWorld;

@@ -1,26 +1,25 @@
 //! What the sessions of a script show.
 
 ghost use Rattle.std.specs.Prelude.{◌≡◌, ◌++◌, ℕ, [], List, Some, OnOk, length};
-ghost use Rattle.vfs_base.specs.declared.deck.Deck.{Deck as AnyDeck};
-ghost use Rattle.vfs_base.specs.declared.describe.Describe.{Describe as AnyDescribe};
 ghost use Rattle.vfs_model.specs.ScriptRun.{RunState, state_after};
 ghost use Rattle.vfs_model.specs.Transcript.{session_title, sessions_text};
+ghost use Rattle.script_stage.specs.Scenes.{Script};
 ghost use Rattle.script_stage.specs.Standing.{ClosesAt};
 ghost use Rattle.script_stage.specs.Texts.{has_line, is_line_of, titled_text, titled_texts};
 
 use crate::closing::session_at;
 use crate::stage::Stage;
 use crate::stage_session::StageSession;
-use crate::step_world::StepWorld;
+use step_world::StepWorld;
 use vfs_base::{Act, Bytes, NoMemory, SessionId};
 
 impl<W: StepWorld> Stage<W> {
     /// Appends what each session shows that the script posts to, with its title. After an `Err` a front of
     /// it may stand there.
     pub fn push_sessions(&self, out: &mut Bytes, acts: &[Act]) -> Result<(), NoMemory>
-        ensures { OnOk result ((deck : AnyDeck) (describe : AnyDescribe) (s : RunState) → deck.acts ≡ acts.now →
-            ClosesAt self.now deck describe [] → state_after deck describe self.now.schedule ≡ Some s →
-            out.new ≡ out.old ++ sessions_text deck s) }
+        ensures { OnOk result ((script : Script) (s : RunState) → script.deck.acts ≡ acts.now →
+            ClosesAt self.now script [] → state_after script.deck script.describe self.now.schedule ≡ Some s →
+            out.new ≡ out.old ++ sessions_text script.deck s) }
     {
         push_all(out, acts, self.sessions.as_slice())
     }

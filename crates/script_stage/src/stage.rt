@@ -1,22 +1,19 @@
 ghost use Rattle.std.specs.Prelude.{◌≡◌, ◌-◌, ◌+◌, ◌<◌, ◌≤◌, ◌^◌, ◌++◌, ◌∷◌, ℕ, [], List, true, map, All, IfOk, OnOk, OnErr, length};
 ghost use Rattle.std.specs.Bool.{OnFalse, OnTrue};
-ghost use Rattle.vfs_base.specs.declared.deck.Deck.{Deck as AnyDeck};
-ghost use Rattle.vfs_base.specs.declared.describe.Describe.{Describe as AnyDescribe};
 ghost use Rattle.vfs_model.specs.DeckLaws.{IsAct, IsEvent};
-ghost use Rattle.vfs_model.specs.Homes.{opening_world};
-ghost use Rattle.vfs_model.specs.ScriptRun.{rom_image, sessions};
+ghost use Rattle.vfs_model.specs.FaultCounts.{NoneFalls};
 ghost use Rattle.vfs_model.specs.Turns.{Posts, RunOut, Steps, Task, act_tasks, script_tasks};
 ghost use Rattle.msh_session.specs.SessionTalks.{session_rest};
-ghost use Rattle.script_stage.specs.Scenes.{IsNumber};
+ghost use Rattle.script_stage.specs.Scenes.{GoesOn, Halts, IsNumber, Script, with_entry};
 ghost use Rattle.script_stage.specs.Sessions.{AtWork};
 ghost use Rattle.script_stage.specs.SessionTurns.{TakesWanted};
-ghost use Rattle.script_stage.specs.Standing.{Breaks, ClosesAt, Does, Grows, IsAsking, IsHandedOut, IsIdle, IsWork, OthersStay, SessionAt, StandsAt, TakesTurn};
+ghost use Rattle.script_stage.specs.Standing.{AreFresh, Breaks, Does, Grows, IsAsking, IsFresh, IsIdle, IsWork, Opens, OthersStay, SessionAt, StandsAt, TakesTurn};
 
 use crate::phase::Phase;
 use crate::stage_session::StageSession;
-use crate::step_world::StepWorld;
 use std::alloc::Global;
 use std::marker::Model;
+use step_world::StepWorld;
 use vfs_base::{Act, Bytes, Entry, List, Mark, NoMemory, SESSIONS, SessionId, Step, Who};
 
 /// A world, its eight sessions and the schedule so far: a script at work.
@@ -26,6 +23,8 @@ pub struct Stage<W: StepWorld> {
     // By number.
     pub(crate) sessions: Vec<StageSession>,
     pub(crate) schedule: Vec<Entry>,
+    // How many entries there were when the sessions began to leave.
+    pub(crate) leaves_at: Option<usize>,
 }
 
 impl<W: StepWorld> Model for Stage<W> {
@@ -34,7 +33,12 @@ impl<W: StepWorld> Model for Stage<W> {
 
     ghost Value = { Scene };
 
-    ghost view = { λ stage. record { world = W.world stage.world; sessions = stage.sessions.items; schedule = stage.schedule.items } };
+    ghost view = { λ stage. record {
+      view = W.seen stage.world;
+      sessions = stage.sessions.items;
+      schedule = stage.schedule.items;
+      leaves_at = stage.leaves_at;
+    } };
 
     ghost invariant = { λ stage. length stage.sessions.items ≡ 8 };
 }
@@ -42,15 +46,16 @@ impl<W: StepWorld> Model for Stage<W> {
 impl<W: StepWorld> Stage<W> {
     /// A script at the start.
     pub fn new(alloc: Global, world: W) -> Result<Stage<W>, NoMemory>
-        ensures { IfOk result (λ stage. (deck : AnyDeck) (describe : AnyDescribe) →
-            W.world world ≡ opening_world (map rom_image deck.roms) describe →
-            StandsAt stage deck describe (script_tasks deck) []) }
+        ensures stands { IfOk result (λ stage. (script : Script) →
+            Opens script (W.seen world) → StandsAt stage script (script_tasks script.deck) []) }
+        ensures fresh { IfOk result IsFresh }
     {
         let sessions = new_sessions(alloc)?;
         Ok(Stage {
             world,
             sessions,
             schedule: Vec::new(alloc),
+            leaves_at: None,
         })
     }
 
@@ -60,7 +65,9 @@ impl<W: StepWorld> Stage<W> {
     /// `NoMemory`; the schedule is then that of an earlier moment, and nothing but `give_up` is of use.
     pub fn run_line(&mut self, alloc: Global, k: SessionId, line: &[u8]) -> Result<(), NoMemory>
         ensures ok { OnOk result (Does self.old self.new (RunOut k ∷ Posts k line.now ∷ RunOut k ∷ [])) }
+        ensures idle { OnOk result (IsIdle self.new.sessions k) }
         ensures err { OnErr result (Breaks self.old self.new (RunOut k ∷ Posts k line.now ∷ RunOut k ∷ [])) }
+        ensures goes_on { GoesOn self.old self.new }
     {
         self.begin_line(alloc, k, line)?;
         self.run_out(alloc, k)
@@ -85,12 +92,10 @@ impl<W: StepWorld> Stage<W> {
 
     /// Hands out what the first session was shown and nobody was handed yet. It takes no memory.
     pub fn hand_out(&mut self) -> Bytes
-        ensures work { (deck : AnyDeck) (describe : AnyDescribe) (tasks : List Task) (handed : List ℕ) →
-            StandsAt self.old deck describe tasks handed → StandsAt self.new deck describe tasks (handed ++ result) }
-        ensures end { (deck : AnyDeck) (describe : AnyDescribe) (handed : List ℕ) →
-            ClosesAt self.old deck describe handed → ClosesAt self.new deck describe (handed ++ result) }
-        ensures out { IsHandedOut self.new }
-        ensures schedule { self.new.schedule ≡ self.old.schedule }
+        ensures work { (script : Script) (tasks : List Task) (handed : List ℕ) →
+            StandsAt self.old script tasks handed → StandsAt self.new script tasks (handed ++ result) }
+        ensures fresh { IsIdle self.old.sessions 1 → IsFresh self.new }
+        ensures halts { Halts self.old self.new }
     {
         let alloc = *self.sessions.allocator();
         self.sessions[0].hand_out(alloc)
@@ -103,27 +108,24 @@ impl<W: StepWorld> Stage<W> {
         self.schedule.as_slice()
     }
 
-    pub fn into_schedule(self) -> List<Entry>
-        ensures { result ≡ self.schedule }
-    {
-        List::from_vec(self.schedule)
-    }
-
     // Runs the session's pending command to its end, and posts the line.
     fn begin_line(&mut self, alloc: Global, k: SessionId, line: &[u8]) -> Result<(), NoMemory>
         ensures ok { OnOk result (Does self.old self.new (RunOut k ∷ Posts k line.now ∷ [])) }
         ensures err { OnErr result (Breaks self.old self.new (RunOut k ∷ Posts k line.now ∷ [])) }
+        ensures goes_on { GoesOn self.old self.new }
     {
         self.run_out(alloc, k)?;
         self.post(alloc, k, line)
     }
 
     // Runs the session's pending command to its end.
+    #[tactic(auto, using(crate::proofs::Calls::goes_then))]
     pub(crate) fn run_out(&mut self, alloc: Global, k: SessionId) -> Result<(), NoMemory>
         ensures ok { OnOk result (Does self.old self.new (RunOut k ∷ [])) }
         ensures idle { OnOk result (IsIdle self.new.sessions k) }
         ensures others { OthersStay self.old.sessions self.new.sessions k }
         ensures err { OnErr result (Breaks self.old self.new (RunOut k ∷ [])) }
+        ensures goes_on { GoesOn self.old self.new }
     {
         while self.step(alloc, k)? {}
         Ok(())
@@ -134,6 +136,7 @@ impl<W: StepWorld> Stage<W> {
         requires { IsIdle self.old.sessions k }
         ensures ok { OnOk result (Does self.old self.new (Posts k line.now ∷ [])) }
         ensures err { OnErr result (Breaks self.old self.new (Posts k line.now ∷ [])) }
+        ensures goes_on { GoesOn self.old self.new }
     {
         self.sessions[k.place()].post(alloc, line)
     }
@@ -145,7 +148,8 @@ impl<W: StepWorld> Stage<W> {
         ensures idle { IfOk result (λ took. OnFalse took ((self.new ≡ self.old) × IsIdle self.old.sessions k)) }
         ensures number { IsNumber k }
         ensures others { OthersStay self.old.sessions self.new.sessions k }
-        ensures err { OnErr result (self.new.schedule ≡ self.old.schedule) }
+        ensures err { OnErr result (Halts self.old self.new) }
+        ensures goes_on { GoesOn self.old self.new }
     {
         match self.sessions[k.place()].phase() {
             Phase::Idle => Ok(false),
@@ -163,7 +167,8 @@ impl<W: StepWorld> Stage<W> {
         ensures took { OnOk result (TakesTurn self.old self.new k) }
         ensures grows { OnOk result (Grows self.old self.new) }
         ensures others { OthersStay self.old.sessions self.new.sessions k }
-        ensures err { OnErr result (self.new.schedule ≡ self.old.schedule) }
+        ensures err { OnErr result (Halts self.old self.new) }
+        ensures goes_on { GoesOn self.old self.new }
     {
         let session = &mut self.sessions[k.place()];
         let mark = take_wanted(alloc, &mut self.world, session, k)?;
@@ -172,10 +177,11 @@ impl<W: StepWorld> Stage<W> {
 
     // Puts an entry behind the schedule.
     pub(crate) fn enter(&mut self, who: Who, mark: Mark) -> Result<(), NoMemory>
-        ensures ok { OnOk result (self.new ≡ record self.old { schedule = self.old.schedule ++ record { who = who; mark = mark } ∷ [] }) }
+        ensures ok { OnOk result (self.new ≡ with_entry self.old self.old.view self.old.sessions (record { who = who; mark = mark })) }
         ensures room { length self.new.schedule ≤ 2 ^ 64 }
         ensures same { self.new.sessions ≡ self.old.sessions }
         ensures err { OnErr result (self.new ≡ self.old) }
+        ensures goes_on { GoesOn self.old self.new }
     {
         self.schedule.push(Entry { who, mark })?;
         Ok(())
@@ -235,7 +241,8 @@ fn take_wanted<W: StepWorld>(
     k: SessionId,
 ) -> Result<Mark, NoMemory>
     requires { session.old.phase ≡ Phase.Asking }
-    ensures { IfOk result (TakesWanted session.old session.new (W.world world.old) (W.world world.new) k) }
+    ensures ok { IfOk result (TakesWanted session.old session.new (W.seen world.old) (W.seen world.new) k) }
+    ensures err { OnErr result (NoneFalls (W.seen world.old).faults (W.seen world.new).faults) }
 {
     let step = session.wanted(alloc)?;
     take_asked(alloc, world, session, k, &step)
@@ -250,7 +257,8 @@ fn take_asked<W: StepWorld>(
     step: &Step,
 ) -> Result<Mark, NoMemory>
     requires { (session_rest session.old.session [] []).wanted ≡ Some step.now }
-    ensures { IfOk result (TakesWanted session.old session.new (W.world world.old) (W.world world.new) k) }
+    ensures ok { IfOk result (TakesWanted session.old session.new (W.seen world.old) (W.seen world.new) k) }
+    ensures err { OnErr result (NoneFalls (W.seen world.old).faults (W.seen world.new).faults) }
 {
     let taken = world.take(alloc, Who::Session { k }, step)?;
     session.hear(alloc, &taken.0)?;
@@ -261,6 +269,7 @@ fn take_asked<W: StepWorld>(
 fn new_sessions(alloc: Global) -> Result<Vec<StageSession>, NoMemory>
     ensures count { IfOk result (λ all. length all.items ≡ 8) }
     ensures each { IfOk result (λ all. (k : ℕ) → IsNumber k → SessionAt AtWork all.items k [] [] []) }
+    ensures fresh { IfOk result (λ all. AreFresh all.items) }
 {
     let mut sessions = Vec::new(alloc);
     for _place in 0..SESSIONS {

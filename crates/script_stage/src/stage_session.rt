@@ -24,7 +24,8 @@ impl StageSession {
 
     /// A session at the start.
     pub fn new(alloc: Global) -> Result<StageSession, NoMemory>
-        ensures { IfOk result (λ session. AtWork session [] [] []) }
+        ensures work { IfOk result (λ session. AtWork session [] [] []) }
+        ensures fresh { IfOk result (λ session. (session.phase ≡ Phase.Idle) × (session.text ≡ [])) }
     {
         Ok(StageSession {
             session: Session::new(alloc)?,
@@ -105,6 +106,7 @@ impl StageSession {
         ensures follows { FollowsExit self.old self.new }
         ensures exits { exits_left self.new.session ≡ drop 1 (exits_left self.old.session) }
         ensures phase { self.new.phase ≡ self.old.phase }
+        ensures text { self.new.text ≡ self.old.text }
     {
         self.session.exited();
     }

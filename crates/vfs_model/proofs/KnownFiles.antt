@@ -153,7 +153,7 @@ held-from held k hold file own above e =
     ∙ ap (λ b. if b then slice_index_or held (hold.number - 1) None else None) above ∙ e
 
 -- a write at another reference leaves what this one keeps
-other-held : (held : List (Option FileId)) (k : ℕ) (hold other : HoldId) (file : FileId) (written : Option FileId) →
+pub other-held : (held : List (Option FileId)) (k : ℕ) (hold other : HoldId) (file : FileId) (written : Option FileId) →
     nat_lt 0 hold.number ≡ true → other.number ≢ hold.number → file_held held k other ≡ Some file →
     file_held (slice_set held (hold.number - 1) written) k other ≡ Some file
 other-held held k hold other file written above ne e =
@@ -257,7 +257,7 @@ or-first : (a b : Bool) → a ≡ true → (a || b) ≡ true
 or-first true b h = refl
 or-first false b h = absurd (cc)
 
-or-second : (a b : Bool) → b ≡ true → (a || b) ≡ true
+pub or-second : (a b : Bool) → b ≡ true → (a || b) ≡ true
 or-second true b h = refl
 or-second false b h = h
 

@@ -32,6 +32,7 @@ pub mod FolderCommandExamples
 pub mod FolderTalks
 pub mod FreeNumbers
 pub mod FreePlaces
+pub mod GivenBack
 pub mod GrowingRuns
 pub mod HeldReferences
 pub mod HeldSteps

@@ -35,7 +35,7 @@ pub record TalkAsks (k : ℕ) (b : Behind k) (first second : Option Keeper) (tal
 -- a block is no part of what is asked
 block-asks : (k : ℕ) (block : List ℕ) (replies : List Reply) (held : Held) (run : List Reply → SessionRun) →
     AsksItsOwn k replies held run → AsksItsOwn k replies held (λ more. block_before block (run more))
-block-asks k block [] held run asks = record { wants = asks.wants; leaves = asks.leaves }
+block-asks k block [] held run asks = record { wants = asks.wants; gives = asks.gives; leaves = asks.leaves }
 block-asks k block (answer ∷ later) held run asks =
     λ asked e can. block-asks k block later (held_after k held asked answer) (λ more. run (answer ∷ more)) (asks asked e can)
 
@@ -61,6 +61,7 @@ module _ (k : ℕ) (b : Behind k) where
       (replies : List Reply) → AsksItsOwn k replies held (λ more. run_of b (λ more. ask_holding own step go state more) more)
   asking-each own step go state held may next [] = record {
     wants = λ asked e. let same : step ≡ asked = cc in subst (λ s. may_ask_held held.files s (step_file s) ≡ true) same may;
+    gives = λ idle. absurd (cc);
     leaves = λ none whole. absurd (cc);
   }
   asking-each own step go state held may next (reply ∷ replies) = λ asked e.
@@ -146,6 +147,7 @@ module _ (k : ℕ) (b : Behind k) where
   turning-each own step round state held plain each [] stage =
       record {
         wants = λ asked e. let same : step stage ≡ asked = cc in subst (λ s. may_ask_held held.files s (step_file s) ≡ true) same (plain stage).may;
+        gives = λ idle. absurd (cc);
         leaves = λ none whole. absurd (cc);
       }
   turning-each own step round state held plain each (reply ∷ replies) stage = λ asked e.

@@ -9,6 +9,7 @@ use Rattle.vfs_base.specs.declared.limits.TheConstants.{DESCRIPTORS, WINDOWS}
 use Rattle.vfs_base.specs.declared.reply.Reply.{Reply}
 use Rattle.vfs_base.specs.declared.step.Step.{Step}
 use Rattle.vfs_base.specs.declared.step.Step.TheVariants as step
+use Rattle.vfs_model.proofs.GivenBack.{GiveBack, exit-back, first-back, step-back}
 use Rattle.vfs_model.proofs.KnownFiles.{Keeper, Knows, OfFile, OfFirst, OfMapping, OfSecond, Place, keeps_open, keeps_window, known_at}
 use Rattle.vfs_model.proofs.LeavingSessions.{IsLeaving, knows-leaving, leaving, left-empty, step-leaving}
 use Rattle.vfs_model.proofs.OwnCopyTalks.{copy-asks}
@@ -124,27 +125,28 @@ module _ (k : ℕ) (state : ShellState) where
 
   exit-asks : (replies : List Reply) (held : Held) (left : List Reply → List Reply) (count : ℕ) (steps : List Step) →
       ((more : List Reply) → length (left more) ≡ count + length more) → AreLeft state count steps → IsLeaving held steps →
-      AsksItsOwn k replies held (λ more. leaving state (left more))
-  exit-asks [] held left count steps counts are giving = record {
+      GiveBack k held.files steps → AsksItsOwn k replies held (λ more. leaving state (left more))
+  exit-asks [] held left count steps counts are giving = λ back. record {
     wants = λ asked e. one-may held (exit_steps (leaving state (left []))) (length (left [])) asked (exit-may held state (left [])) e;
+    gives = λ idle asked e. first-back k held.files steps asked back (sym (now-left left count steps counts are) ∙ e);
     leaves = λ none whole. no-left held steps giving (sym (now-left left count steps counts are) ∙ none) whole;
   }
-  exit-asks (answer ∷ later) held left count [] counts are giving = λ asked e.
+  exit-asks (answer ∷ later) held left count [] counts are giving = λ back asked e.
       let some : slice_get [] 0 ≡ Some asked = sym (now-left left count [] counts are) ∙ e in
       absurd (cc)
-  exit-asks (answer ∷ later) held left count (x ∷ steps) counts are giving = λ asked e can.
+  exit-asks (answer ∷ later) held left count (x ∷ steps) counts are giving = λ back asked e can.
       let some : slice_get (x ∷ steps) 0 ≡ Some asked = sym (now-left left count (x ∷ steps) counts are) ∙ e in
       let same : x ≡ asked = cc in
       subst (λ s. AsksItsOwn k later (held_after k held s answer) (λ more. leaving state (left (answer ∷ more)))) same
       (exit-asks later (held_after k held x answer) (λ more. left (answer ∷ more)) (suc count) steps
       (λ more. let e = counts (answer ∷ more) in omega (arith, e))
       (λ place. ap (slice_get (exit_steps (leaving state []))) (omega arith) ∙ are (suc place))
-      (step-leaving k held steps x answer giving))
+      (step-leaving k held steps x answer giving) (step-back k held steps x answer back))
 
 lines-ask : (k : ℕ) (lines : List (List ℕ)) (state : ShellState) (held : Held) → Knows k held state None None → (replies : List Reply) →
     AsksItsOwn k replies held (λ more. lines_run lines state more)
 lines-ask k [] state held knows replies =
-    exit-asks k state replies held (λ more. more) 0 (exit_steps (leaving state [])) (λ more. omega arith) (λ place. ap (slice_get (exit_steps (leaving state []))) (omega arith)) (knows-leaving k held state knows)
+    exit-asks k state replies held (λ more. more) 0 (exit_steps (leaving state [])) (λ more. omega arith) (λ place. ap (slice_get (exit_steps (leaving state []))) (omega arith)) (knows-leaving k held state knows) (exit-back k held state knows)
 lines-ask k (line ∷ lines) state held knows replies =
     let b : Behind k = record { start = state; line = line; later = lines_run lines; asks = lines-ask k lines } in
     ((line-asks k b line).from state held knows).each replies

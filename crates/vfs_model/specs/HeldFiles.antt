@@ -12,7 +12,7 @@ use Rattle.vfs_model.specs.Asking.{needs_no_reference}
 use Rattle.vfs_model.specs.FileStep.{step_file}
 use Rattle.vfs_model.specs.Namespace.{folder_of, references_of}
 use Rattle.vfs_model.specs.NamespaceStep.{is_shutdown}
-use Rattle.vfs_model.specs.Session.{SessionRun, wanted_step}
+use Rattle.vfs_model.specs.Session.{SessionRun, is_pending, wanted_step}
 use Rattle.vfs_model.specs.World.{step_row}
 use Rattle.vfs_model.specs.declared.namespace.Namespace.{Namespace}
 
@@ -137,14 +137,28 @@ pub record IsEmpty (held : Held) : Type 0 where
   pub files : (place : ℕ) → slice_index_or held.files place None ≡ None
   pub folder : held.folder ≡ []
 
--- the session may ask what it wants, and where it wants nothing more it has nothing
-pub record StandsWell (held : Held) (run : SessionRun) : Type 0 where
+-- the step gives back a reference that keeps a file, or goes back to `/`
+abbrev pub gives_back : ℕ → List (Option FileId) → Step → Bool
+gives_back k held (step.Close hold) = is_some (file_held held k hold)
+gives_back k held (step.Unmap hold) = is_some (file_held held k hold)
+gives_back k held step.Home = true
+gives_back k held _ = false
+
+-- where its lines are done the session gives back only what it has
+abbrev pub GivesBackItsOwn : ℕ → Held → SessionRun → Type 0
+GivesBackItsOwn k held run = is_pending run ≡ false → (asked : Step) → wanted_step run ≡ Some asked → gives_back k held.files asked ≡ true
+
+-- the session may ask what it wants, where its lines are done it gives back only what it has, and where it wants nothing
+-- more it has nothing
+pub record StandsWell (k : ℕ) (held : Held) (run : SessionRun) : Type 0 where
   pub wants : WantsItsOwn held run
+  pub gives : GivesBackItsOwn k held run
   pub leaves : wanted_step run ≡ None → held.whole ≡ true → IsEmpty held
 
--- At each of these replies that its steps can have, the session may ask what it wants, and where it wants nothing more it has nothing.
+-- At each of these replies that its steps can have, the session may ask what it wants, where its lines are done it gives back
+-- only what it has, and where it wants nothing more it has nothing.
 abbrev pub AsksItsOwn : ℕ → List Reply → Held → (List Reply → SessionRun) → Type 0
-AsksItsOwn k [] held run = StandsWell held (run [])
+AsksItsOwn k [] held run = StandsWell k held (run [])
 AsksItsOwn k (answer ∷ later) held run =
     (asked : Step) → wanted_step (run []) ≡ Some asked → CanReply k held.files asked answer →
     AsksItsOwn k later (held_after k held asked answer) (λ more. run (answer ∷ more))

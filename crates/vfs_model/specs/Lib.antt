@@ -33,6 +33,7 @@ pub mod Holders
 pub mod Homes
 pub mod IoTotals
 pub mod Laws
+pub mod Leaving
 pub mod LivingFiles
 pub mod Lookup
 pub mod MadeCalls

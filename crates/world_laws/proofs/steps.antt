@@ -28,6 +28,7 @@ pub mod ScriptKeeping
 pub mod ShutdownKeeping
 pub mod StepKeeping
 pub mod StepsBehind
+pub mod SureLeaving
 pub mod UmountKeeping
 pub mod Unmounting
 pub mod Vacating

@@ -24,7 +24,8 @@
 // - Mkfs: MkfsKeeping; Shutdown: Resting, RootRemoval, ShutdownKeeping
 // - what a volume keeps while it is not mounted: VolumeStaying, VolumeSteps; an unmount, any steps and a mount again: Remounting
 // - of one file: WorldKeeping; every step and every list of steps: WorldSteps; the start: Opening
-// - every schedule of a script: ScriptKeeping; what it asks, and that a session that is done has left: ScriptAsking, LeftSessions
+// - every schedule of a script: ScriptKeeping; what it asks, and that a session that is done has left: ScriptAsking, LeftSessions;
+//   that leaving needs no memory: SureLeaving
 //
 // A world behind what character devices had at entry: of files and rows in `parts`, FilesBehind and RowsBehind; of steps in
 // `steps`, GoingOnBehind, of the namespace, and StepsBehind; which world it is, and the start: WorldBehind.
@@ -32,6 +33,7 @@
 ghost use Rattle.world_laws.specs.Behind.{OpeningIsBehind, RunsGoOnBehind, StepsGoOnBehind, WorldsHaveOneBehind};
 ghost use Rattle.world_laws.specs.Mounted.{KeptFilesStay, KeptFilesStayLater, MountedRomShowsItsFiles, MountedVolumeShowsItsFiles, RemountedVolumeShowsItsFiles, UnmountedVolumeKeepsItsFiles, VolumeMountedLaterShowsItsFiles};
 ghost use Rattle.world_laws.specs.Keeping.{AskedMayBeTaken, FileStepsKeepConsistency, OpeningIsConsistent, RunsKeepConsistency, StepsKeepConsistency};
+ghost use Rattle.world_laws.specs.Leaving.{LeavingNeedsNoMemory, ScheduleLeavesSurely};
 ghost use Rattle.world_laws.specs.Scripts.{DoneSessionsHaveLeft, ScriptEndMayBeAsked, ScriptStepsMayBeAsked, ScriptsStayConsistent};
 
 /// The world at the start of every script is consistent, whatever devices there are: the roms of a script are trees.
@@ -78,6 +80,17 @@ pub fn done_sessions_have_left()
 /// So the end, where all sessions are done, may ask Shutdown.
 pub fn script_end_may_be_asked()
     ensures { ScriptEndMayBeAsked }
+{}
+
+/// Where a script stands after any schedule, each step by which a session leaves gives back a reference that the session has, or goes
+/// back to `/`, also where a step before it was refused. So it needs no memory, and neither does the end.
+pub fn leaving_needs_no_memory()
+    ensures { LeavingNeedsNoMemory }
+{}
+
+/// In a schedule in which want of memory stops only steps that need memory, it stops no step by which a session leaves, nor the end.
+pub fn schedule_leaves_surely()
+    ensures { ScheduleLeavesSurely }
 {}
 
 /// Below the point of a rom that was mounted stands what the rom has, with its bytes, and nothing else.

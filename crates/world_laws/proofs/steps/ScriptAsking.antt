@@ -27,13 +27,13 @@ use Rattle.vfs_model.specs.Boxes.{IsConsistent}
 use Rattle.vfs_model.specs.Deck.{session_lines}
 use Rattle.vfs_model.specs.ExitLaws.{HasLeft, gives_up}
 use Rattle.vfs_model.specs.FileStep.{step_file}
-use Rattle.vfs_model.specs.HeldFiles.{AsksItsOwn, CanReply, Held, IsEmpty, held_after, held_by, may_ask_held, own_by}
+use Rattle.vfs_model.specs.HeldFiles.{AsksItsOwn, CanReply, Held, IsEmpty, gives_back, held_after, held_by, may_ask_held, own_by}
 use Rattle.vfs_model.specs.Homes.{opening_world}
 use Rattle.vfs_model.specs.Namespace.{folder_of, opening_namespace}
 use Rattle.vfs_model.specs.NamespaceStep.{is_shutdown, namespace_step, shutdown_step}
 use Rattle.vfs_model.specs.Schedule.{is_end}
 use Rattle.vfs_model.specs.ScriptRun.{RunState, entry_step, heard_by, is_done, opening_state, rom_image, run_of, sessions, state_after, state_after_step, take_entry}
-use Rattle.vfs_model.specs.Session.{SessionRun, session_run, wanted_step}
+use Rattle.vfs_model.specs.Session.{SessionRun, is_pending, session_run, wanted_step}
 use Rattle.vfs_model.specs.World.{FitsStep, world_step}
 use Rattle.vfs_model.specs.declared.namespace.Namespace.{Namespace}
 use Rattle.vfs_model.specs.declared.namespace.RomImage.{RomImage}
@@ -50,6 +50,7 @@ same-run : (k : ℕ) (later : List Reply) (held : Held) (run other : List Reply 
     ((more : List Reply) → run more ≡ other more) → AsksItsOwn k later held run → AsksItsOwn k later held other
 same-run k [] held run other e h = record {
   wants = λ asked wanted. h.wants asked (ap wanted_step (e []) ∙ wanted);
+  gives = λ idle asked wanted. h.gives (ap is_pending (e []) ∙ idle) asked (ap wanted_step (e []) ∙ wanted);
   leaves = λ none whole. h.leaves (ap wanted_step (e []) ∙ none) whole;
 }
 same-run k (answer ∷ later) held run other e h = λ asked wanted can.
@@ -57,7 +58,7 @@ same-run k (answer ∷ later) held run other e h = λ asked wanted can.
     (h asked (ap wanted_step (e []) ∙ wanted) can)
 
 -- a session that heard this, and whose references keep these files, asks its own by whatever it hears
-abbrev AsksOn : Deck → ℕ → Held → List Reply → Type 0
+abbrev pub AsksOn : Deck → ℕ → Held → List Reply → Type 0
 AsksOn deck k held heard = (later : List Reply) → AsksItsOwn k later held (λ more. session_run (session_lines deck k) (heard ++ more))
 
 -- what it wants now it may ask
@@ -65,6 +66,14 @@ asks-now : (deck : Deck) (k : ℕ) (held : Held) (heard : List Reply) (asked : S
     wanted_step (session_run (session_lines deck k) heard) ≡ Some asked → may_ask_held held.files asked (step_file asked) ≡ true
 asks-now deck k held heard asked asks wanted =
     (asks []).wants asked (ap (λ found. wanted_step (session_run (session_lines deck k) found)) (append-nil heard) ∙ wanted)
+
+-- where its lines are done it gives back what it has
+pub gives-now : (deck : Deck) (k : ℕ) (held : Held) (heard : List Reply) (asked : Step) → AsksOn deck k held heard →
+    is_pending (session_run (session_lines deck k) heard) ≡ false → wanted_step (session_run (session_lines deck k) heard) ≡ Some asked →
+    gives_back k held.files asked ≡ true
+gives-now deck k held heard asked asks idle wanted =
+    (asks []).gives (ap (λ found. is_pending (session_run (session_lines deck k) found)) (append-nil heard) ∙ idle) asked
+    (ap (λ found. wanted_step (session_run (session_lines deck k) found)) (append-nil heard) ∙ wanted)
 
 -- and where it wants nothing more it has nothing
 has-nothing : (deck : Deck) (k : ℕ) (held : Held) (heard : List Reply) → AsksOn deck k held heard →
@@ -90,18 +99,18 @@ none-is None h = refl
 none-is (Some x) h = absurd (cc)
 
 -- how a session stands: it asks its own by what it has, of which nothing was lost where that is claimed
-record Stands (claims : ℕ → Bool) (deck : Deck) (n : Namespace) (heard : List Reply) (k : ℕ) : Type 0 where
-  whole : Bool
-  asks : AsksOn deck k (own_by whole n k) heard
-  claimed : claims k ≡ true → whole ≡ true
+pub record Stands (claims : ℕ → Bool) (deck : Deck) (n : Namespace) (heard : List Reply) (k : ℕ) : Type 0 where
+  pub whole : Bool
+  pub asks : AsksOn deck k (own_by whole n k) heard
+  pub claimed : claims k ≡ true → whole ≡ true
 
 -- where a script stands: each session asks its own, until the end was taken, and wants nothing then and has left
-record AllAskOn (claims : ℕ → Bool) (deck : Deck) (s : RunState) : Type 0 where
-  consistent : IsConsistent s.world
-  listened : length s.heard ≡ 8
-  going : s.is_over ≡ false → (k : ℕ) → 0 < k → k ≤ 8 → Stands claims deck s.world.namespace (heard_by s k) k
-  over : s.is_over ≡ true → (k : ℕ) → 0 < k → k ≤ 8 → wanted_step (run_of deck s k) ≡ None
-  left : s.is_over ≡ true → (k : ℕ) → 0 < k → k ≤ 8 → claims k ≡ true → HasLeft s.world.namespace k
+pub record AllAskOn (claims : ℕ → Bool) (deck : Deck) (s : RunState) : Type 0 where
+  pub consistent : IsConsistent s.world
+  pub listened : length s.heard ≡ 8
+  pub going : s.is_over ≡ false → (k : ℕ) → 0 < k → k ≤ 8 → Stands claims deck s.world.namespace (heard_by s k) k
+  pub over : s.is_over ≡ true → (k : ℕ) → 0 < k → k ≤ 8 → wanted_step (run_of deck s k) ≡ None
+  pub left : s.is_over ≡ true → (k : ℕ) → 0 < k → k ≤ 8 → claims k ≡ true → HasLeft s.world.namespace k
 
 -- a session that is done has left
 stands-left : (claims : ℕ → Bool) (deck : Deck) (n : Namespace) (heard : List Reply) (k : ℕ) → 0 < k → Stands claims deck n heard k → claims k ≡ true →
@@ -228,7 +237,7 @@ end-left w (mark.Fault moved) k left =
     rest-left (world_step w who.End step.Shutdown (mark.Fault moved)).next.namespace k (shutdown-leaves-rest w who.End (mark.Fault moved) (λ e. cc))
 end-left w (mark.NoMem moved) k left = left
 
-ends-with : (done : Bool) (asked : Step) → (if done then Some step.Shutdown else None) ≡ Some asked → step.Shutdown ≡ asked
+pub ends-with : (done : Bool) (asked : Step) → (if done then Some step.Shutdown else None) ≡ Some asked → step.Shutdown ≡ asked
 ends-with true asked e = same-some step.Shutdown asked e
 ends-with false asked e = absurd (cc)
 
@@ -328,7 +337,7 @@ module _ (own : (k : ℕ) (lines : List (List ℕ)) (whole : Bool) (size : ℕ) 
     left = λ o. absurd (cc);
   }
 
-  stands-after : (claims : ℕ → Bool) (deck : Deck) (describe : Describe) (schedule : List Entry) (s : RunState) → AllAre (λ entry. IsThere entry.who) schedule →
+  pub stands-after : (claims : ℕ → Bool) (deck : Deck) (describe : Describe) (schedule : List Entry) (s : RunState) → AllAre (λ entry. IsThere entry.who) schedule →
       AreClaimed claims deck (opening_state deck describe) schedule → state_after deck describe schedule ≡ Some s → AllAskOn claims deck s
   stands-after claims deck describe schedule s all along e =
       entries-keep-along deck (λ entry. IsThere entry.who) (AllAskOn claims deck) (AreClaimed claims deck) (entry-keeps claims deck)

@@ -1,15 +1,11 @@
-use Rattle.std.proofs.Common.{refl, ◌∙◌}
-use Rattle.std.proofs.Common.{Some}
-use Rattle.dfs_run.specs.declared.report.FaultNote.TheVariants as fault
-use Rattle.dfs_run.proofs.EndingLemmas.{closes_so}
+use Rattle.dfs_run.proofs.EndingLemmas.{closes_open}
 use Rattle.dfs_run.proofs.StandingLemmas.{leaves_open}
 use Rattle.dfs_run.proofs.shell.close.Goals as goal
-
-pub returns-in-Ok-clause-closes : goal.returns-in-Ok-clause-closes
-returns-in-Ok-clause-closes g c = c.write_end.ensures.closes c.args.stage c.in-Ok.ensures.ok
+use Rattle.script_stage.specs.Scenes.{told_entries}
 
 pub returns-in-Err-clause-closes : goal.returns-in-Err-clause-closes
 returns-in-Err-clause-closes g c =
-    closes_so c.args.stage c.close.new.self.schedule c.new.result.schedule (g.K.Sink.written c.args.sink.now) (g.K.Sink.written c.args.sink.now)
-    (Some fault.NoMemory) c.new.result.fault (c.new.ensures.schedule ∙ c.give_up.ensures) c.new.ensures.fault
-    (leaves_open c.args.stage c.close.new.self c.in-Err.ensures.err, refl)
+    closes_open c.args.stage c.give_up.result.0.schedule (told_entries c.close.new.self) (g.W.StepWorld.seen c.give_up.result.0.world).faults (g.K.Sink.written c.args.sink.now)
+    c.give_up.result.1
+    (leaves_open c.args.stage c.close.new.self (g.W.StepWorld.seen c.give_up.result.0.world).faults c.in-Err.ensures.err c.close.ensures.goes_on c.give_up.ensures.rising)
+    c.give_up.ensures.schedule c.give_up.ensures.fault

@@ -39,3 +39,17 @@ pub returns-in-Events-clause-err : goal.returns-in-Events-clause-err
 returns-in-Events-clause-err g c =
     subst (λ tasks. OnErr c.play_events.result (Breaks c.args.self.now c.play_events.new.self tasks))
     (ap (map Steps) c.as_slice-in-Events.ensures ∙ ap act_tasks (sym c.in-Events.is)) c.play_events.ensures.err
+
+pub returns-in-Post-default-default-true-clause-ok : goal.returns-in-Post-default-default-true-clause-ok
+returns-in-Post-default-default-true-clause-ok g c =
+    let go : c.in-Post-default-default-true.go ≡ true = rw (← c.in-Post-default-default-true.go-is) c.in-Post-default-default-true.go-test in
+    subst (λ tasks. OnOk c.run_line.result (Does c.args.self.now c.run_line.new.self tasks))
+    (waits c.args.act.now c.in-Post-default-default-true.k c.in-Post-default-default-true.text c.as_slice.result.now c.in-Post-default-default-true.go
+    c.in-Post-default-default-true.is c.as_slice.ensures go) c.run_line.ensures.ok
+
+pub returns-in-Post-default-default-false-clause-ok : goal.returns-in-Post-default-default-false-clause-ok
+returns-in-Post-default-default-false-clause-ok g c =
+    let go : c.in-Post-default-default-false.go ≡ false = rw (← c.in-Post-default-default-false.go-is) c.in-Post-default-default-false.go-test in
+    subst (λ tasks. OnOk c.begin_line.result (Does c.args.self.now c.begin_line.new.self tasks))
+    (leaves_pending c.args.act.now c.in-Post-default-default-false.k c.in-Post-default-default-false.text c.as_slice-in-Post-default-default-false.result.now
+    c.in-Post-default-default-false.go c.in-Post-default-default-false.is c.as_slice-in-Post-default-default-false.ensures go) c.begin_line.ensures.ok

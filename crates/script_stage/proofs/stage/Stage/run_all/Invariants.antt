@@ -1,9 +1,6 @@
-use Rattle.std.proofs.Common.{drop, map}
-use Rattle.vfs_model.specs.ScriptRun.{sessions}
-use Rattle.vfs_model.specs.Turns.{RunOut}
+use Rattle.script_stage.proofs.ClosingAll.{RanUpTo}
 use Rattle.script_stage.proofs.stage.Stage.run_all.Given as goal
-use Rattle.script_stage.specs.Standing.{EachUpTo, IsIdle, Leads, StandsAt}
+use Rattle.script_stage.specs.Scenes.{GoesOn}
 
 abbrev pub invariant-loop-place : goal.invariant-loop-place
-invariant-loop-place g l =
-    Leads StandsAt l.fn.self l.self (map RunOut sessions) (map RunOut (drop l.place sessions)) × EachUpTo l.place (IsIdle l.self.sessions)
+invariant-loop-place g l = RanUpTo l.fn.self l.self l.place × GoesOn l.fn.self l.self
