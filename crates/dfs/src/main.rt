@@ -16,7 +16,7 @@ fn main(rt: HostRuntime) -> ExitCode {
         Ok(words) => run(&rt, words.as_slice()),
         Err(fault) => Report::new(List::new(rt.alloc()), Some(fault)),
     };
-    if let Some(fault) = report.fault {
+    if let Some(fault) = &report.fault {
         // Where standard error is closed, the status alone tells.
         let _ = eprintln!(rt; "{fault}");
     }
