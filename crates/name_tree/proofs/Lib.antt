@@ -1,0 +1,10 @@
+pub mod Belows
+pub mod Calls
+pub mod Depths
+pub mod FoundChanges
+pub mod Listings
+pub mod NodeChanges
+pub mod NodeSlots
+pub mod TreeChanges
+pub mod Views
+pub mod Walks
