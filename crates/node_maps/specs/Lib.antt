@@ -1,0 +1,2 @@
+pub mod IsFault
+pub mod NodeMap
