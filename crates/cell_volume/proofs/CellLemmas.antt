@@ -1,10 +1,9 @@
 -- Cells and what a contract sees of them: devices that go and come home, marks, and how many cells are spare.
-use Rattle.std.proofs.Common.{◌≡◌, ◌≢◌, ℕ, zero, suc, ◌+◌, ◌<◌, ◌≤◌, Bool, true, false, cond, not, ◌&&◌, Option, Some, None, is_some, option_map, List, [], ◌∷◌, ◌++◌, length, map, count_by, get_or, set, slice_index_or, slice_set, refl, sym, ap, subst, ◌∙◌, arith}
-use Rattle.std.proofs.lemmas.List.{get_or-set_other, get_or-set_same, length-map, ext_get_or, length-set, map-set}
+use Rattle.std.proofs.Common.{◌≡◌, ◌≢◌, ℕ, zero, suc, ◌+◌, ◌<◌, Bool, false, cond, not, ◌&&◌, Option, Some, None, is_some, option_map, List, [], ◌∷◌, length, map, count_by, get_or, set, slice_index_or, slice_set, refl, sym, ap, ◌∙◌, arith}
+use Rattle.std.proofs.lemmas.List.{get_or-set_other, get_or-set_same, length-map, ext_get_or, map-set}
 use Rattle.std.proofs.lemmas.List.FromFn.{get_or-map-range_with_len, length-range_with_len}
 use Rattle.std.proofs.lemmas.List.Sums.{sum_by-cons, sum_by-set}
 use Rattle.std.specs.List.{position, position_or_len, range_with_len}
-use Rattle.vfs_base.specs.declared.describe.CellNode.{CellNode}
 use Rattle.vfs_base.specs.declared.describe.Counts.{Counts}
 use Rattle.vfs_outside.specs.Volume.{CellState}
 use Rattle.cell_volume.proofs.RecordFiles.{Nodes}

@@ -1,5 +1,5 @@
 -- The entries of a map by path: what is found, taken away and put last.
-use Rattle.std.proofs.Common.{◌≡◌, ◌≢◌, ℕ, Bool, true, false, cond, not, ◌&&◌, T, Option, Some, None, List, [], ◌∷◌, ◌++◌, fold, filter, map, take, drop, length, ◌-◌, inl, inr, refl, sym, ap, subst, ◌∙◌, append_assoc}
+use Rattle.std.proofs.Common.{◌≡◌, ℕ, Bool, true, false, cond, not, ◌&&◌, T, Some, [], ◌∷◌, ◌++◌, fold, map, take, drop, length, ◌-◌, inl, inr, refl, sym, ap, subst, ◌∙◌, append_assoc}
 use Rattle.std.proofs.lemmas.List.{append-nil, take_rest}
 use Rattle.std.specs.BTreeMap.{is_at}
 use Rattle.std.specs.FinMap.Entries.{below_all, by_order, find as value_at, is_sorted, put}

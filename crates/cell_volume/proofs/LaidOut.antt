@@ -1,5 +1,5 @@
 -- A mounted volume as it is laid out stays so: at a device that goes or comes home, a node that comes or goes, and no node at all.
-use Rattle.std.proofs.Common.{◌≡◌, ◌≢◌, ℕ, zero, suc, ◌<◌, ◌≤◌, Bool, true, false, not, ◌&&◌, T, if◌then◌else◌, is_some, count_by, slice_get, unwrap_or, option_and_then, Result, Ok, Err, OnOk, OnErr, Option, Some, None, IfSome, option_map, List, [], ◌∷◌, length, map, slice_index_or, inl, inr, refl, sym, ap, subst, ◌∙◌, arith}
+use Rattle.std.proofs.Common.{◌≡◌, ℕ, zero, suc, ◌<◌, Bool, true, false, not, ◌&&◌, T, if◌then◌else◌, is_some, count_by, slice_get, unwrap_or, option_and_then, Result, Ok, Err, OnOk, OnErr, Option, Some, None, IfSome, option_map, List, [], ◌∷◌, length, map, slice_index_or, inl, inr, refl, sym, ap, subst, ◌∙◌, arith}
 use Rattle.std.proofs.lemmas.Bool.Decides.{eqb_tells}
 use Rattle.std.proofs.lemmas.List.{get_or_past, length-map, length-set}
 use Rattle.std.proofs.lemmas.Option.{same_Some}
@@ -22,7 +22,7 @@ use Rattle.cell_volume.proofs.RecordFiles.{Nodes, file_at, file_of, has_file-at}
 use Rattle.cell_volume.proofs.RecordMoves.{found-both, moved-files-other, moved-files-own, moved-kept}
 use Rattle.cell_volume.proofs.RecordSteps.{IsKept, empty-kept, keep-files, keep-kept, may-link, not-true, put-files-other, put-files-own, put-kept, without-files-other, without-files-own, without-kept}
 use Rattle.cell_volume.specs.Cells.{IsLaidOut, MarksFiles, MarksNode, cell_at, is_spare_cell, new_cell, state_of, states_of, with_device, with_mark, with_mark_of, without_mark}
-use Rattle.cell_volume.specs.MountedVolume.{IsMounted, MountedVolume, are_home, cell_state, file_device, has_file, is_dir, is_file, least_spare, new_file, spare_cells, spare_count, with_cell, with_content, with_found, with_kept, with_record}
+use Rattle.cell_volume.specs.MountedVolume.{IsMounted, MountedVolume, are_home, cell_state, file_device, has_file, is_dir, is_file, least_spare, new_file, spare_cells, spare_count, with_content, with_found, with_kept}
 use Rattle.cell_volume.specs.declared.cells.Cell.{Cell}
 
 module _ {B : Type 0} where
@@ -289,9 +289,8 @@ same-number devices cells e =
     sym (length-map cells (λ cell. cell.device)) ∙ ap (λ devices. length devices) e ∙ length-map (map new_cell devices) (λ cell. cell.device) ∙ length-map devices new_cell
 
 -- the cell of a new file is there, and no file has it
-pub own-cell : {B : Type 0} (pages : B → ℕ) (contents : B → Option (List (List ℕ))) (counts : B → Counts) (cells : List (Cell B)) (kept : Nodes) (own : ℕ) →
-    own < length (states_of pages contents counts cells) → has_file kept own ≡ false → (cell : ℕ) → node_cell (new_file own) ≡ Some cell → (cell < length cells) × (has_file kept cell ≡ false)
-own-cell pages contents counts cells kept own within unused cell e =
+pub own-cell : (cells : ℕ) (kept : Nodes) (own : ℕ) → own < cells → has_file kept own ≡ false →
+    (cell : ℕ) → node_cell (new_file own) ≡ Some cell → (cell < cells) × (has_file kept cell ≡ false)
+own-cell cells kept own within unused cell e =
     let same : own ≡ cell = cc in
-    let len = length-map cells (state_of pages contents counts) in
-    (subst (λ k. k < length cells) same (omega (arith, within, len)), subst (λ k. has_file kept k ≡ false) same unused)
+    (subst (λ k. k < cells) same within, subst (λ k. has_file kept k ≡ false) same unused)

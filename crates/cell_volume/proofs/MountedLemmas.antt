@@ -1,5 +1,5 @@
 -- What keeps a mounted volume as it has to be: a device that goes or comes home, and another record.
-use Rattle.std.proofs.Common.{◌≡◌, ◌≢◌, ℕ, zero, suc, ◌==◌, ◌+◌, ◌<◌, ◌≤◌, Bool, true, false, ◌&&◌, T, nat_le, Option, Some, None, IfSome, is_some, option_map, List, [], ◌∷◌, ◌++◌, length, map, get_or, set, slice_index_or, slice_set, ◌⊎◌, inl, inr, refl, sym, ap, subst, ◌∙◌, arith}
+use Rattle.std.proofs.Common.{◌≡◌, ℕ, zero, suc, Bool, true, false, ◌&&◌, T, nat_le, Option, Some, None, IfSome, List, [], ◌∷◌, length, map, slice_index_or, slice_set, inl, inr, refl, sym, ap, subst, ◌∙◌, arith}
 use Rattle.std.proofs.lemmas.Bool.Decides.{eqb_tells, nat_tests}
 use Rattle.std.proofs.lemmas.List.{get_or-set_other, get_or-set_same, length-map, length-set, set_past}
 use Rattle.std.specs.FinMap.Entries.{below_all, is_sorted}
@@ -10,11 +10,11 @@ use Rattle.std.specs.Ordering.{is_lt}
 use Rattle.std.specs.declared.cmp.Ordering.TheVariants.{Less}
 use Rattle.vfs_base.specs.Path.{Path, path_cmp}
 use Rattle.vfs_base.specs.declared.limits.TheConstants.{VOLUME_CELLS_MAX}
-use Rattle.vfs_outside.specs.Volume.{CellState, IsRecord, IsVolume, VolumeState, are_cells, is_page_count}
+use Rattle.vfs_outside.specs.Volume.{CellState, IsRecord, IsVolume, VolumeState, is_page_count}
 use Rattle.cell_volume.proofs.PathFronts.{below-or-past}
 use Rattle.cell_volume.proofs.RecordFiles.{Nodes, apart-record, closed-record, record-closed}
 use Rattle.cell_volume.proofs.RecordSteps.{IsKept}
-use Rattle.cell_volume.specs.MountedVolume.{IsMounted, MountedVolume, device_at, mounted, with_cell, with_record}
+use Rattle.cell_volume.specs.MountedVolume.{IsMounted, MountedVolume, mounted, with_cell, with_record}
 
 -- a record in the order of a map is in order
 pub ordered-entries : {X : Type 0} (entries : List (Path × X)) → IsStrictlySortedBy path_cmp (keys_of entries) → T (is_sorted path_cmp entries)

@@ -1,20 +1,18 @@
 -- Nodes by path in which each parent is a folder: a node with all below it moves.
-use Rattle.std.proofs.Common.{◌≡◌, ◌≢◌, ℕ, suc, ◌+◌, ◌<◌, ◌≤◌, Bool, true, false, cond, not, ◌||◌, ◌&&◌, T, Some, is_some, List, [], ◌∷◌, ◌++◌, length, drop, filter, map, fold, ◌⊎◌, inl, inr, refl, sym, ap, subst, ◌∙◌, arith, length-append, append_assoc}
+use Rattle.std.proofs.Common.{◌≡◌, ◌≢◌, ℕ, ◌+◌, Bool, true, false, ◌||◌, Some, is_some, List, [], ◌∷◌, ◌++◌, length, drop, ◌⊎◌, inl, inr, refl, sym, ap, subst, ◌∙◌, arith, length-append, append_assoc}
 use Rattle.std.proofs.lemmas.List.{append_cancel_left, append-nil}
-use Rattle.std.specs.Prelude.{nat_lt}
-use Rattle.std.specs.FinMap.Entries.{find as value_at, is_sorted, is_sorted-put, is_sorted-where_key, length-put}
+use Rattle.std.specs.FinMap.Entries.{find as value_at}
 use Rattle.std.specs.List.{list_any}
 use Rattle.vfs_base.specs.Path.{Path, path_cmp}
-use Rattle.vfs_base.specs.PathLaws.{path_cmp_total}
 use Rattle.vfs_model.proofs.MovedLaws.{prefix-append}
 use Rattle.vfs_model.proofs.Trees.{prefix-splits, same_path-other}
 use Rattle.vfs_model.specs.Consistency.{IsClosedTree}
 use Rattle.vfs_model.specs.Lookup.{is_below, is_prefix}
 use Rattle.vfs_model.specs.Namespace.{same_path}
-use Rattle.node_maps.specs.NodeMap.{NodeMap, carried, is_folder, left_behind, moved, put_entry}
+use Rattle.node_maps.specs.NodeMap.{NodeMap, is_folder, moved}
 use Rattle.node_maps.proofs.MovedNodes.{moved-at, moved-away, moved-beside, moved-length, moved-sorted, none-under}
 use Rattle.cell_volume.proofs.ClosedNodes.{found_dir, front-dir}
-use Rattle.cell_volume.proofs.PathFronts.{LastName, below-or-past, named, not-empty, or-first, prefix-length, prefix-through, same-front, same-or-other-path, same-prefix, true-or-false}
+use Rattle.cell_volume.proofs.PathFronts.{LastName, named, not-empty, or-first, prefix-length, prefix-through, same-front, same-or-other-path, true-or-false}
 
 module _ {N : Type 0} (is_dir : N → Bool) where
   -- a move of old with all below it to new, in one tree

@@ -1,18 +1,13 @@
 -- The files of a record by their paths, and what a record is: a tree whose files have cells of their own.
-use Rattle.std.proofs.Common.{◌≡◌, ◌≢◌, ℕ, zero, suc, ◌==◌, ◌+◌, ◌<◌, ◌≤◌, Bool, true, false, cond, ◌&&◌, ◌||◌, T, Option, Some, None, is_some, option_and_then, List, [], ◌∷◌, ◌++◌, length, slice_index_or, get_or, ◌⊎◌, inl, inr, refl, sym, ap, subst, ◌∙◌, arith}
+use Rattle.std.proofs.Common.{◌≡◌, ◌≢◌, ℕ, zero, suc, ◌==◌, ◌<◌, Bool, true, false, ◌&&◌, ◌||◌, T, Option, Some, None, is_some, option_and_then, List, [], ◌∷◌, ◌++◌, length, slice_index_or, inl, inr, refl, sym, ap, subst, ◌∙◌, arith}
 use Rattle.std.proofs.lemmas.Bool.Decides.{eqb_tells}
 use Rattle.std.proofs.lemmas.List.Elements.{All-from_recursion, recursion_from_All}
-use Rattle.std.specs.FinMap.Entries.{below_all, find as value_at, is_sorted}
-use Rattle.std.specs.List.{All, AllByRecursion, AllPairs, Contains, cons_option, filter_map, list_any}
-use Rattle.std.specs.Ordering.{is_eq, is_lt}
-use Rattle.std.specs.declared.cmp.Ordering.{Ordering}
-use Rattle.std.specs.declared.cmp.Ordering.TheVariants.{Less, Equal, Greater}
+use Rattle.std.specs.FinMap.Entries.{find as value_at, is_sorted}
+use Rattle.std.specs.List.{AllByRecursion, AllPairs, Contains, cons_option, list_any}
 use Rattle.vfs_base.specs.Path.{Path, path_cmp}
-use Rattle.vfs_base.specs.PathLaws.{path_ties}
 use Rattle.vfs_base.specs.declared.describe.CellNode.{CellNode}
 use Rattle.vfs_base.specs.declared.describe.CellNode.TheVariants.{Dir, File}
-use Rattle.vfs_base.specs.declared.limits.TheConstants.{NODES}
-use Rattle.vfs_model.proofs.Trees.{same_path-is, same_path-itself, same_path-other}
+use Rattle.vfs_model.proofs.Trees.{same_path-is, same_path-itself}
 use Rattle.vfs_model.specs.Consistency.{IsClosedTree}
 use Rattle.vfs_model.specs.Namespace.{same_path}
 use Rattle.vfs_outside.specs.Volume.{IsFolder, IsRecord, file_cells, node_cell}

@@ -1,11 +1,11 @@
 -- What a rename keeps of a record, and which cells files have behind it.
-use Rattle.std.proofs.Common.{◌≡◌, ◌≢◌, ℕ, ◌<◌, Bool, true, false, ◌&&◌, Option, Some, None, is_some, option_and_then, unwrap_or, List, [], ◌∷◌, ◌++◌, length, drop, if◌then◌else◌, inl, inr, refl, sym, ap, subst, ◌∙◌}
+use Rattle.std.proofs.Common.{◌≡◌, ◌≢◌, ℕ, Bool, true, false, ◌&&◌, Option, Some, None, is_some, option_and_then, unwrap_or, [], ◌∷◌, ◌++◌, length, drop, if◌then◌else◌, inl, inr, refl, sym, ap, subst, ◌∙◌}
 use Rattle.std.proofs.lemmas.List.{append-nil}
 use Rattle.std.specs.FinMap.Entries.{find as value_at}
 use Rattle.std.specs.List.{list_any}
 use Rattle.vfs_base.specs.Path.{Path, path_cmp}
 use Rattle.vfs_base.specs.declared.describe.CellNode.{CellNode}
-use Rattle.vfs_base.specs.declared.describe.CellNode.TheVariants.{Dir, File}
+use Rattle.vfs_base.specs.declared.describe.CellNode.TheVariants.{Dir}
 use Rattle.vfs_model.proofs.MovedLaws.{prefix-append}
 use Rattle.vfs_model.proofs.Trees.{prefix-splits}
 use Rattle.vfs_model.specs.Lookup.{is_below, is_prefix}
@@ -15,7 +15,7 @@ use Rattle.node_maps.specs.NodeMap.{is_folder, moved, rename_refusal}
 use Rattle.node_maps.specs.declared.tree_fault.TreeFault.TheVariants as fault
 use Rattle.node_maps.proofs.MovedNodes.{moved-at, moved-beside, none-under}
 use Rattle.cell_volume.proofs.MovedClosed.{MayMove, Source, moved-closed, one-source, source}
-use Rattle.cell_volume.proofs.PathFronts.{LastName, true-or-false}
+use Rattle.cell_volume.proofs.PathFronts.{true-or-false}
 use Rattle.cell_volume.proofs.RecordFiles.{Nodes, file-node, file_at, file_of, has_file-at}
 use Rattle.cell_volume.proofs.RecordSteps.{IsKept, fronted, not-true, same-test}
 use Rattle.cell_volume.specs.MountedVolume.{has_file, is_dir}

@@ -1,28 +1,27 @@
 -- What each change of a record keeps: it stays a tree whose files have cells of their own, and which cells files have.
-use Rattle.std.proofs.Common.{◌≡◌, ◌≢◌, ℕ, zero, suc, ◌==◌, ◌+◌, ◌-◌, ◌<◌, ◌≤◌, Bool, true, false, cond, not, ◌&&◌, ◌||◌, T, nat_le, Option, Some, None, is_some, option_and_then, List, [], ◌∷◌, ◌++◌, length, take, replicate, if◌then◌else◌, ◌⊎◌, inl, inr, refl, sym, ap, subst, ◌∙◌, arith, length-append}
-use Rattle.std.proofs.lemmas.Bool.Decides.{eqb_tells, nat_tests}
+use Rattle.std.proofs.Common.{◌≡◌, ◌≢◌, ℕ, ◌+◌, ◌-◌, ◌<◌, Bool, true, false, cond, not, ◌||◌, nat_le, Option, Some, None, is_some, option_and_then, List, [], ◌∷◌, ◌++◌, length, take, if◌then◌else◌, inl, inr, refl, sym, ap, ◌∙◌, arith, length-append}
+use Rattle.std.proofs.lemmas.Bool.Decides.{nat_tests}
 use Rattle.std.proofs.lemmas.List.{take_at}
-use Rattle.std.specs.FinMap.Entries.{find as value_at, is_sorted, is_sorted-put, is_sorted-where_key, length-put, put}
+use Rattle.std.specs.FinMap.Entries.{find as value_at, is_sorted-put, length-put, put}
 use Rattle.std.specs.List.{list_any}
 use Rattle.vfs_base.specs.Path.{Path, path_cmp}
 use Rattle.vfs_base.specs.PathLaws.{path_cmp_total}
 use Rattle.vfs_base.specs.declared.describe.CellNode.{CellNode}
-use Rattle.vfs_base.specs.declared.describe.CellNode.TheVariants.{Dir, File}
+use Rattle.vfs_base.specs.declared.describe.CellNode.TheVariants.{File}
 use Rattle.vfs_base.specs.declared.limits.TheConstants.{NODES}
-use Rattle.vfs_model.proofs.Trees.{at-put-here, at-put-other, at-without-here, at-without-other, same_path-itself, same_path-other}
+use Rattle.vfs_model.proofs.Trees.{at-put-here, at-put-other, at-without-here, at-without-other}
 use Rattle.vfs_model.specs.Consistency.{IsClosedTree}
-use Rattle.vfs_model.specs.Lookup.{is_below, is_prefix}
+use Rattle.vfs_model.specs.Lookup.{is_below}
 use Rattle.vfs_model.specs.Namespace.{same_path}
 use Rattle.vfs_model.specs.NormalPath.{parent_of}
 use Rattle.vfs_outside.specs.Volume.{node_cell}
 use Rattle.node_maps.specs.NodeMap.{is_folder, is_there, link_refusal, without}
-use Rattle.node_maps.specs.declared.tree_fault.TreeFault.{TreeFault}
 use Rattle.node_maps.specs.declared.tree_fault.TreeFault.TheVariants as fault
 use Rattle.node_maps.proofs.MovedNodes.{none-under}
 use Rattle.cell_volume.proofs.ClosedNodes.{found_dir, put-closed, without-closed}
-use Rattle.cell_volume.proofs.PathFronts.{LastName, named, same-or-other-path, true-or-false}
-use Rattle.cell_volume.proofs.RecordFiles.{FileNode, FilesApart, Nodes, file-node, file_at, file_of, has_file-at}
-use Rattle.cell_volume.specs.MountedVolume.{has_file, is_dir, with_content, with_found}
+use Rattle.cell_volume.proofs.PathFronts.{named, same-or-other-path}
+use Rattle.cell_volume.proofs.RecordFiles.{FilesApart, Nodes, file_at, file_of, has_file-at}
+use Rattle.cell_volume.specs.MountedVolume.{has_file, is_dir}
 
 -- A record that a mounted volume may have.
 pub record IsKept (cells : ℕ) (kept : Nodes) : Type 0 where

@@ -1,9 +1,8 @@
-use Rattle.std.proofs.Common.{◌≡◌, true, List, map, sym, ap, ◌∙◌, rules}
+use Rattle.std.proofs.Common.{◌≡◌, true, map, ◌∙◌, rules}
 use Rattle.std.proofs.lemmas.List.{map_push}
 use Rattle.std.proofs.lemmas.Map.Iter.{iter_end}
 use Rattle.std.specs.BTreeMap.{values}
 use Rattle.std.specs.Map.Iter.{deref}
-use Rattle.vfs_base.specs.declared.describe.CellNode.{CellNode}
 use Rattle.cell_volume.proofs.CellLoops.{devices-with_mark_of, marked-more, marks-of-values}
 use Rattle.cell_volume.proofs.MountedLemmas.{ordered-entries}
 use Rattle.cell_volume.proofs.cells.mark_files.Goals as goal

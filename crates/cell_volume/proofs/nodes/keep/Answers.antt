@@ -3,7 +3,7 @@ use Rattle.std.specs.FinMap.Entries.{find as value_at, put}
 use Rattle.vfs_base.specs.Path.{path_cmp}
 use Rattle.cell_volume.proofs.EntryLemmas.{lookup-value_at, written-put}
 use Rattle.cell_volume.proofs.MountedLemmas.{ordered-entries}
-use Rattle.cell_volume.specs.MountedVolume.{with_content, with_found}
+use Rattle.cell_volume.specs.MountedVolume.{with_found}
 use Rattle.cell_volume.proofs.nodes.keep.Goals as goal
 
 pub returns-in-Some : goal.returns-in-Some

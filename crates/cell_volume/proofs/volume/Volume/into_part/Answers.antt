@@ -1,6 +1,6 @@
-use Rattle.std.proofs.Common.{◌≡◌, List, Option, Some, is_some, false, map, sym, ap, subst, ◌∙◌, rules}
+use Rattle.std.proofs.Common.{◌≡◌, List, Option, is_some, sym, ap, subst, ◌∙◌, rules}
 use Rattle.std.specs.List.{list_all}
-use Rattle.vfs_outside.specs.Volume.{CellState, VolumeState, cell_states}
+use Rattle.vfs_outside.specs.Volume.{CellState, cell_states}
 use Rattle.cell_volume.proofs.LaidOut.{laid-home, states-devices}
 use Rattle.cell_volume.proofs.MountedLemmas.{volume-mounted}
 use Rattle.cell_volume.specs.MountedVolume.{IsMounted, are_home}

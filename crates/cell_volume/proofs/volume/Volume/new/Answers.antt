@@ -1,5 +1,4 @@
-use Rattle.std.proofs.Common.{List, Option, length, map, sym, ap, ◌∙◌, arith}
-use Rattle.std.proofs.lemmas.List.{length-map}
+use Rattle.std.proofs.Common.{List, Option, map, sym, ap, ◌∙◌, arith}
 use Rattle.vfs_outside.specs.Volume.{CellState}
 use Rattle.cell_volume.proofs.LaidOut.{laid-new, new-devices, new-unmarked, same-number, states-devices}
 use Rattle.cell_volume.specs.MountedVolume.{mounted}

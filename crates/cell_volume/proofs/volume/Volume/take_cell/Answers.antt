@@ -1,4 +1,4 @@
-use Rattle.std.proofs.Common.{◌≡◌, List, Option, Some, None, true, is_some, option_map, sym, ap, ◌∙◌}
+use Rattle.std.proofs.Common.{◌≡◌, List, Option, None, is_some, option_map, sym, ap, ◌∙◌}
 use Rattle.std.specs.List.{position}
 use Rattle.vfs_outside.specs.Volume.{CellState}
 use Rattle.cell_volume.proofs.CellLemmas.{states-with_device}
