@@ -1,0 +1,11 @@
+pub mod CellLemmas
+pub mod CellLoops
+pub mod ClosedNodes
+pub mod EntryLemmas
+pub mod LaidOut
+pub mod MountedLemmas
+pub mod MovedClosed
+pub mod PathFronts
+pub mod RecordFiles
+pub mod RecordMoves
+pub mod RecordSteps

@@ -1,0 +1,2 @@
+pub mod DeviceTable
+pub mod Slots
