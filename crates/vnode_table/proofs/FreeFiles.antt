@@ -60,10 +60,10 @@ passed row n left count slots within is le =
     )
 
 -- a whole block is passed by its count
-pub block-passed : (slots : SlotTable) (block left count nth : ℕ) → length slots ≡ 1024 → block < 16 → count ≡ free_in_block slots block → count ≤ left →
+pub block-passed : (slots : SlotTable) (block left count nth : ℕ) → 64 * block + 64 ≤ length slots → count ≡ free_in_block slots block → count ≤ left →
     slice_get (free_files_from (64 * block + 1) (drop (64 * block) slots)) left ≡ slice_get (free_files slots) nth →
     slice_get (free_files_from (64 * (block + 1) + 1) (drop (64 * (block + 1)) slots)) (left - count) ≡ slice_get (free_files slots) nth
-block-passed slots block left count nth size within is le so_far =
+block-passed slots block left count nth within is le so_far =
     let room : 64 ≤ length (drop (64 * block) slots) = omega (arith, length-drop (64 * block) slots) in
     let row : 64 * (block + 1) + 1 ≡ 64 * block + 1 + 64 = omega arith in
     let start : 64 * (block + 1) ≡ 64 * block + 64 = omega arith in

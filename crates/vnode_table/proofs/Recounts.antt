@@ -106,15 +106,18 @@ block-here slots blocks total place count slot counted within is =
     let change = block-same slots place slot within in
     get_or-set_same blocks (place / 64) count 0 inner ∙ omega (arith, is, old, some, change)
 
-block-by : (slots : SlotTable) (blocks : List ℕ) (total place count block : ℕ) (slot : VnodeSlot) → IsCounted slots blocks total → place < length slots →
-    count ≡ recounted (slice_index_or blocks (place / 64) 0) (is_free (slice_index_or slots place opening_slot)) (is_free slot) →
+block-by : (slots : SlotTable) (blocks : List ℕ) (total place block : ℕ) (slot : VnodeSlot) → IsCounted slots blocks total → place < length slots →
     (((block == place / 64) ≡ true) × (block ≡ place / 64)) ⊎ (((block == place / 64) ≡ false) × (block ≢ place / 64)) →
-    slice_index_or (slice_set blocks (place / 64) count) block 0 ≡ free_in_block (slice_set slots place slot) block
-block-by slots blocks total place count block slot counted within is (inl same) =
+    slice_index_or
+    (slice_set blocks (place / 64) (recounted (slice_index_or blocks (place / 64) 0) (is_free (slice_index_or slots place opening_slot)) (is_free slot)))
+    block 0
+    ≡ free_in_block (slice_set slots place slot) block
+block-by slots blocks total place block slot counted within (inl same) =
+    let count : ℕ = recounted (slice_index_or blocks (place / 64) 0) (is_free (slice_index_or slots place opening_slot)) (is_free slot) in
     subst (λ b. slice_index_or (slice_set blocks (place / 64) count) b 0 ≡ free_in_block (slice_set slots place slot) b) (sym same.1)
-    (block-here slots blocks total place count slot counted within is)
-block-by slots blocks total place count block slot counted within is (inr other) =
-    get_or-set_other blocks (place / 64) block count 0 other.1 ∙ counted.each block ∙ sym (block-other slots place block slot other.1)
+    (block-here slots blocks total place count slot counted within refl)
+block-by slots blocks total place block slot counted within (inr other) =
+    get_or-set_other blocks (place / 64) block _ 0 other.1 ∙ counted.each block ∙ sym (block-other slots place block slot other.1)
 
 -- a count has room for one more
 pub block-room : (slots : SlotTable) (blocks : List ℕ) (total block : ℕ) → IsCounted slots blocks total → slice_index_or blocks block 0 < 65535
@@ -133,7 +136,7 @@ counted-set slots blocks total place slot counted within =
     record {
       size = length-set slots place slot ∙ counted.size;
       places = length-set blocks (place / 64) _ ∙ counted.places;
-      each = λ block. block-by slots blocks total place _ block slot counted within refl (eqb_tells block (place / 64));
+      each = λ block. block-by slots blocks total place block slot counted within (eqb_tells block (place / 64));
       all = omega (arith, some, sum_is, total_is);
     }
 

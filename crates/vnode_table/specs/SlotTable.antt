@@ -5,7 +5,7 @@ use Rattle.vfs_base.specs.declared.ids.FileId.{FileId}
 use Rattle.vfs_base.specs.declared.limits.TheConstants.{ROWS}
 use Rattle.vnode_table.specs.declared.vnode_slot.VnodeSlot.{VnodeSlot}
 
--- the slots of all rows, from row 1 on
+-- the slots of all rows, in the order of rows
 abbrev pub SlotTable : Type 0
 SlotTable = List VnodeSlot
 

@@ -1,7 +1,7 @@
 //! The vnode slots: numbered places of live files, each with the generation of its file.
 //!
-//! A contract sees a `VnodeTable` as the list of its 1,024 slots, from row 1 on: generation, bound or
-//! not, linked or not, and the number of references. `specs/SlotTable.antt` has the words on it.
+//! A contract sees a `VnodeTable` as the list of its 1,024 slots by row, each with a generation, bound
+//! or not, linked or not, and a number of references. `specs/SlotTable.antt` has the words on it.
 //! It never looks at names, mounts or bytes, and takes memory only when it is made.
 #![tactic(auto)]
 
