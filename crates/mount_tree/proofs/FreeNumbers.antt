@@ -1,5 +1,5 @@
 -- Where there are fewer mounts than numbers, the least free number is one, and no mount has it.
-use Rattle.std.proofs.Common.{◌≡◌, ℕ, suc, ◌+◌, ◌-◌, ◌<◌, ◌≤◌, ◌==◌, ◌⊎◌, inl, inr, Bool, true, false, nat_eq, nat_lt, Option, Some, None, if◌then◌else◌, List, [], ◌∷◌, length, map, slice_index_or, refl, sym, ap, subst, ◌∙◌, arith}
+use Rattle.std.proofs.Common.{◌≡◌, ℕ, suc, ◌+◌, ◌-◌, ◌<◌, ◌≤◌, ◌==◌, ◌⊎◌, inl, inr, Bool, true, false, nat_eq, nat_le, nat_lt, Option, Some, None, if◌then◌else◌, List, [], ◌∷◌, length, map, slice_index_or, refl, sym, ap, subst, ◌∙◌, arith}
 use Rattle.std.specs.Prelude.{not, ◌||◌, cond}
 use Rattle.std.specs.List.{list_any, position_or_len, range_with_len}
 use Rattle.std.proofs.lemmas.Bool.{cases_lt}
@@ -91,3 +91,9 @@ is-a-number mounts found number few is found_is none =
 
 pub is-free : (mounts : MountList) (number : ℕ) → length mounts.others ≤ 14 → number ≡ least_free_number mounts → IsFreeNumber mounts number
 is-free mounts number few is = subst (IsFreeNumber mounts) (sym is) (least-free mounts (omega arith))
+
+-- where not all numbers are used, there is room for one more mount
+pub room-left : (mounts : MountList) (full : Bool) → full ≡ nat_le 16 (length (mounts_of mounts)) → full ≡ false → length mounts.others ≤ 14
+room-left mounts full is free =
+    let less : nat_le 16 (length (mounts_of mounts)) ≡ false = sym is ∙ free in
+    grind (arith, nat_tests, less)

@@ -1,6 +1,6 @@
 //! The tree of mounts.
 
-ghost use Rattle.std.specs.Prelude.{◌≡◌, [], ◌≢◌, ◌≤◌, ◌==◌, ◌↔◌, Some, Err, true, false, is_some, length, not, option_map, slice_get, IfOk, OnErr};
+ghost use Rattle.std.specs.Prelude.{◌≡◌, [], ◌≢◌, ◌≤◌, ◌==◌, ◌↔◌, Some, Err, true, false, is_some, length, nat_le, not, option_map, slice_get, IfOk, OnErr};
 ghost use Rattle.std.specs.Option.{option_copied};
 ghost use Rattle.vfs_base.specs.declared.limits.TheConstants.{MOUNTS};
 ghost use Rattle.vfs_model.specs.Lookup.{is_prefix};
@@ -55,6 +55,14 @@ impl MountTree {
         })
     }
 
+    /// Whether all 16 numbers are used, so that no mount can be added.
+    pub fn is_full(&self) -> bool
+        ensures full { result ≡ nat_le MOUNTS (length (mounts_of self.now)) }
+        ensures sound { AreMounts self.now }
+    {
+        MOUNTS - 1 <= self.others.len()
+    }
+
     /// Adds a mount at a point that no mount has. It comes last in the order of mounting, and its
     /// number, which is answered, is the least that no mount has.
     ///
@@ -68,7 +76,7 @@ impl MountTree {
         ensures full { (result ≡ Err fault.Full) ↔ (length (mounts_of self.old) ≡ MOUNTS) }
         ensures refused { OnErr result (self.new ≡ self.old) }
     {
-        if MOUNTS - 1 <= self.others.len() {
+        if self.is_full() {
             return Err(MountFault::Full);
         }
         let number = free_number(&self.root, self.others.as_slice());

@@ -10,6 +10,9 @@ use vfs_base::{FileId, Generation, RowId};
 /// Slots that are counted together.
 pub const BLOCK: usize = 64;
 
+/// Blocks of all slots.
+pub const BLOCKS: usize = 16;
+
 /// The count after one of the slots that it counts was changed.
 pub fn recount(count: u16, was: bool, is: bool) -> u16
     requires room { count < 65535 }

@@ -5,7 +5,7 @@ ghost use Rattle.std.specs.Result.{result_ok};
 ghost use Rattle.vfs_base.specs.declared.limits.TheConstants.{ROWS};
 ghost use Rattle.vnode_table.specs.SlotTable.{IsFreeRow, IsSound, IsSoundSlot, bound_slot, file_at, free_files, held_slot, is_unused, least_free_row, linked_slot, opening_slot, released_slot, slot_at, unbound_slot, with_slot};
 
-use crate::free_files::{BLOCK, nth_free_file, recount};
+use crate::free_files::{BLOCK, BLOCKS, nth_free_file, recount};
 use crate::rows_full::RowsFull;
 use crate::vnode_slot::{VnodeSlot, is_free};
 use std::alloc::Global;
@@ -21,7 +21,7 @@ pub struct VnodeTable {
     // The slots, by row.
     slots: Vec<VnodeSlot>,
     // How many slots are free in each block of 64.
-    blocks: [u16; 16],
+    blocks: [u16; BLOCKS],
     // How many slots are free.
     total: u16,
 }
@@ -47,7 +47,7 @@ impl VnodeTable {
         let slots = vec![in alloc; VnodeSlot::OPENING; ROWS as usize]?;
         Ok(VnodeTable {
             slots,
-            blocks: [64; 16],
+            blocks: [BLOCK as u16; BLOCKS],
             total: ROWS,
         })
     }
@@ -161,6 +161,7 @@ impl VnodeTable {
     }
 
     /// The row has no file any more. It keeps its generation, and is free unless that is the last one.
+    /// A row that is not bound stays as it is.
     pub fn unbind(&mut self, row: RowId)
         requires { is_unused (slot_at self.old row) ≡ true }
         ensures { self.new ≡ with_slot self.old row unbound_slot }
