@@ -1,0 +1,3 @@
+pub mod FreeNumbers
+pub mod Items
+pub mod KeptMounts

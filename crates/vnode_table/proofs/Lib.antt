@@ -1,0 +1,3 @@
+pub mod FreeFiles
+pub mod Recounts
+pub mod SoundSlots
