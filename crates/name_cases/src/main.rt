@@ -30,7 +30,11 @@ fn show_all(rt: &HostRuntime) -> Result<(), TreeFault> {
 fn show_full_folder(rt: &HostRuntime) -> Result<(), TreeFault> {
     let mut tree = NodeTree::new(rt.alloc())?;
     for at in 0..4096u32 {
-        make(rt.alloc(), &mut tree, numbered(rt.alloc(), "", at)?.as_str())?;
+        make(
+            rt.alloc(),
+            &mut tree,
+            numbered(rt.alloc(), "", at)?.as_str(),
+        )?;
     }
     show_tree(rt, &tree, "/")?;
     let more = make(rt.alloc(), &mut tree, "/more");
@@ -77,7 +81,11 @@ fn grow_inner(
     let folder = numbered(rt.alloc(), folder, inner)?;
     make(rt.alloc(), tree, folder.as_str())?;
     for leaf in 0..14u32 {
-        make(rt.alloc(), tree, numbered(rt.alloc(), folder.as_str(), leaf)?.as_str())?;
+        make(
+            rt.alloc(),
+            tree,
+            numbered(rt.alloc(), folder.as_str(), leaf)?.as_str(),
+        )?;
     }
     Ok(())
 }

@@ -1,13 +1,13 @@
 //! A tree at work, by texts of paths.
 
-use crate::paths::path_at;
 ghost use Rattle.std.specs.Prelude.{◌≡◌};
 ghost use Rattle.vfs_model.specs.Lookup.{is_prefix};
 
+use crate::paths::path_at;
 use node_maps::TreeFault;
 use std::alloc::Global;
 use tmpfs::NodeTree;
-use vfs_base::{Name, NodeKind, NoMemory};
+use vfs_base::{Name, NoMemory, NodeKind};
 
 /// A folder more at the path that the text names.
 pub fn make(alloc: Global, tree: &mut NodeTree, text: &str) -> Result<(), TreeFault> {
@@ -16,7 +16,12 @@ pub fn make(alloc: Global, tree: &mut NodeTree, text: &str) -> Result<(), TreeFa
 }
 
 /// Moves a node, unless one path leads over the other or something stands below the new one.
-pub fn move_node(alloc: Global, tree: &mut NodeTree, old: &str, new: &str) -> Result<bool, TreeFault> {
+pub fn move_node(
+    alloc: Global,
+    tree: &mut NodeTree,
+    old: &str,
+    new: &str,
+) -> Result<bool, TreeFault> {
     let old = path_at(alloc, old)?;
     let new = path_at(alloc, new)?;
     move_apart(tree, old.as_names(), new.as_names())
