@@ -1,0 +1,13 @@
+pub mod Runs
+pub mod Found
+pub mod Pages
+pub mod Calls
+pub mod Ways
+pub mod Held
+pub mod PageRanges
+pub mod StoredSets
+pub mod ToGo
+pub mod Parts
+pub mod Bringing
+pub mod Replacing
+pub mod Turns

@@ -1,0 +1,5 @@
+pub mod StoredSet
+pub mod AddressSpace
+pub mod Resident
+pub mod Layout
+pub mod Framed
