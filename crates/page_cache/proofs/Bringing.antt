@@ -1,17 +1,18 @@
 -- A page comes in that was not in memory.
-use Rattle.std.specs.Prelude.{◌≡◌, ℕ, ◌<◌, Bool, true, false, List, [], ◌∷◌, ◌++◌, length, refl, if◌then◌else◌}
+use Rattle.std.specs.Prelude.{◌≡◌, ℕ, ◌<◌, ◌||◌, Bool, true, false, List, [], ◌∷◌, ◌++◌, length, refl, if◌then◌else◌}
 use Rattle.std.proofs.Common.{sym, ◌∙◌, ap, subst}
 use Rattle.std.proofs.lemmas.List.{append-nil}
 use Rattle.vfs_base.specs.declared.limits.TheConstants.{RESIDENT_PAGES}
 use Rattle.vfs_model.specs.BlockDevice.{BlockDevice}
 use Rattle.vfs_model.specs.Cache.{CacheRun, is_stored}
-use Rattle.vfs_model.specs.PageList.{device_bytes}
+use Rattle.vfs_model.specs.PageList.{CachedPage, device_bytes}
 use Rattle.vfs_model.specs.declared.cache.DeviceCall.{DeviceCall}
 use Rattle.vfs_model.specs.declared.cache.DeviceCall.TheVariants as call
 use Rattle.page_cache.specs.AddressSpace.{AddressSpace, Completes, IsCurrent, Moment, RunsOut, SamePages, StopsAt, cache_in, page_of, space_of, touching}
 use Rattle.page_cache.specs.Framed.{AreCounted, changing, reading, then_way}
 use Rattle.page_cache.specs.Resident.{clean_page, holds_page}
 use Rattle.page_cache.proofs.Calls.{none-made}
+use Rattle.page_cache.proofs.Found.{alike}
 use Rattle.page_cache.proofs.Pages.{added-same}
 use Rattle.page_cache.proofs.Runs.{completes-as, completes-change, completes-then, runs-out, stops-as, stops-first}
 use Rattle.page_cache.proofs.Ways.{in_front, touched-room}
@@ -70,6 +71,10 @@ room-unbegun before page x small absent room =
         ≡ (e ++ []) ++ (if t then call.Read page ∷ [] else [])
     by true e = ap (λ calls. calls ++ call.Read page ∷ []) (sym (append-nil e))
     by false e = sym (append-nil e) ∙ sym (append-nil (e ++ []))
+
+-- a page that came in is in memory
+pub brought-there : (page : ℕ) (bytes : List ℕ) (resident rest : List CachedPage) → resident ≡ clean_page page bytes ∷ rest → holds_page resident page ≡ true
+brought-there page bytes resident rest new = ap (λ xs. holds_page xs page) new ∙ ap (λ t. t || holds_page rest page) (alike page)
 
 -- the pages stay the same when one comes in as the device has it
 pub brought-keeps : (before after : AddressSpace) (page : ℕ) (bytes : List ℕ) (told : List (List ℕ)) → holds_page before.resident page ≡ false →

@@ -71,6 +71,14 @@ front-touched a before after page x old new small there =
     completes-as (touching page) (changing (move_to_front page)) (at a x) (at b x) (touched-front (at a x) page there) (completes-change (at a x) (at b x) (move_to_front page) small refl cache) in
     subst (λ s. Completes (touching page) (at s x) (at after x)) old (subst (λ t. Completes (touching page) (at a x) (at t x)) (sym new) whole)
 
+-- a page that goes to the front stays in memory
+pub front-there : (page : ℕ) (xs rest : List CachedPage) → holds_page xs page ≡ true → holds_page (filter (is_cached page) xs ++ rest) page ≡ true
+front-there page [] rest there = absurd (cc)
+front-there page (x ∷ xs) rest there = (elim (x.page == page) as (λ t. (x.page == page) ≡ t → holds_page (filter (is_cached page) (x ∷ xs) ++ rest) page ≡ true) [
+  | true ↦ λ f. rw f (ap (λ t. t || holds_page (filter (is_cached page) xs ++ rest) page) f)
+  | false ↦ λ f. rw f (front-there page xs rest (rw f at there))
+]) refl
+
 pub front-keeps : (a before after : AddressSpace) (page : ℕ) (told : List (List ℕ)) → a ≡ before → after ≡ record a { resident = with_front page a.resident } → IsCurrent before told →
     SamePages before after told told
 front-keeps a before after page told old new current =

@@ -75,10 +75,12 @@ impl AddressSpace {
             (view B.pages B.contents B.counts self.old device.old) (view B.pages B.contents B.counts self.new device.new)) }
         ensures stops { IfErr result (Stops (touching page)
             (view B.pages B.contents B.counts self.old device.old) (view B.pages B.contents B.counts self.new device.new)) }
+        ensures there { OnOk result (holds_page self.new.resident page ≡ true) }
         ensures memory { holds_page self.old.resident page ≡ true → IsOk result }
         ensures same { KeepsPages
             (view B.pages B.contents B.counts self.old device.old) (view B.pages B.contents B.counts self.new device.new) }
         ensures pages { self.new.pages ≡ self.old.pages }
+        ensures device { B.pages device.new ≡ B.pages device.old }
     {
         if self.resident.promote(page) {
             know_counts(device);
@@ -127,6 +129,7 @@ impl AddressSpace {
         ensures same { KeepsPages
             (view B.pages B.contents B.counts self.old device.old) (view B.pages B.contents B.counts self.new device.new) }
         ensures pages { self.new.pages ≡ self.old.pages }
+        ensures device { B.pages device.new ≡ B.pages device.old }
     {
         know_counts(device);
         let mut dirty = self.resident.dirty();
@@ -151,6 +154,7 @@ impl AddressSpace {
         ensures same { KeepsPages
             (view B.pages B.contents B.counts self.old device.old) (view B.pages B.contents B.counts self.new device.new) }
         ensures pages { self.new.pages ≡ self.old.pages }
+        ensures device { B.pages device.new ≡ B.pages device.old }
     {
         know_counts(device);
         while RECLAIM_TARGET < self.resident.len() {
@@ -194,6 +198,8 @@ impl AddressSpace {
         ensures same { KeepsPages
             (view B.pages B.contents B.counts self.old device.old) (view B.pages B.contents B.counts self.new device.new) }
         ensures pages { self.new.pages ≡ self.old.pages }
+        ensures there { OnOk result (holds_page self.new.resident page ≡ true) }
+        ensures device { B.pages device.new ≡ B.pages device.old }
     {
         know_counts(device);
         let mut bytes = new_frame(*self.frame.allocator())?;
@@ -215,6 +221,8 @@ impl AddressSpace {
         ensures same { KeepsPages
             (view B.pages B.contents B.counts self.old device.old) (view B.pages B.contents B.counts self.new device.new) }
         ensures pages { self.new.pages ≡ self.old.pages }
+        ensures there { OnOk result (holds_page self.new.resident page ≡ true) }
+        ensures device { B.pages device.new ≡ B.pages device.old }
     {
         self.write_last(device)?;
         if load(device, &self.stored, page, &mut self.frame).is_err() {

@@ -5,7 +5,7 @@ use Rattle.page_cache.specs.Framed.{reading, seen}
 use Rattle.page_cache.specs.Resident.{clean_page}
 use Rattle.page_cache.specs.StoredSet.{pages_in}
 use Rattle.page_cache.specs.declared.cache_fault.CacheFault.{CacheFault}
-use Rattle.page_cache.proofs.Bringing.{brought-keeps, room-out, room-stopped, room-touched, room-unbegun}
+use Rattle.page_cache.proofs.Bringing.{brought-keeps, brought-there, room-out, room-stopped, room-touched, room-unbegun}
 use Rattle.page_cache.proofs.Parts.{if-err}
 use Rattle.page_cache.proofs.address_space.AddressSpace.add.Goals as goal
 
@@ -35,6 +35,9 @@ returns-clause-ok g c =
     let new = ap (λ resident. let a : AddressSpace = record { pages = c.self.inside.pages; resident = resident; stored = pages_in c.self.inside.stored.words } in a) (c.in_ok-add.ensures {u = tt}).ok
     ∙ ap (λ (s : AddressSpace). let a : AddressSpace = record s { resident = clean_page c.args.page c.load.new.frame.items ∷ s.resident } in a) c.self.view_is in
     room-touched c.args.self.now _ c.args.page c.load.new.frame.items _ _ (c.in_ok-load.ensures {u = tt}).counted c.requires.absent c.requires.room read new
+
+pub returns-clause-there : goal.returns-clause-there
+returns-clause-there g c = brought-there c.args.page _ _ _ (c.in_ok-add.ensures {u = tt}).ok
 
 pub returns-clause-same : goal.returns-clause-same
 returns-clause-same g c told tells current =

@@ -4,7 +4,7 @@ use Rattle.page_cache.specs.AddressSpace.{AddressSpace, SamePages, Stops, StopsA
 use Rattle.page_cache.specs.Resident.{holds_page}
 use Rattle.page_cache.specs.StoredSet.{pages_in}
 use Rattle.page_cache.specs.declared.cache_fault.CacheFault.{CacheFault}
-use Rattle.page_cache.proofs.Bringing.{brought-keeps}
+use Rattle.page_cache.proofs.Bringing.{brought-keeps, brought-there}
 use Rattle.page_cache.proofs.Pages.{same-then}
 use Rattle.page_cache.proofs.Parts.{end-left, end-stopped, err-of, if-err, left-keeps, ok-of}
 use Rattle.page_cache.proofs.Replacing.{absent-taken, full-kept, full-out, full-touched, full-unread}
@@ -66,6 +66,9 @@ returns-clause-ok g c =
     let read = ok-of c.load.result _ (sym c.is_err.ensures.value ∙ c.if-is_err.false) c.load.ensures.ok rest c.self.inside.pages in
     let new = ap (λ resident. let a : AddressSpace = record { pages = c.self.inside.pages; resident = resident; stored = pages_in c.self.inside.stored.words } in a) (c.in_ok-replace_last.ensures {u = tt}).ok in
     full-touched c.args.self.now gone _ c.args.page c.load.new.frame.items _ _ _ c.requires.absent c.requires.full left (c.load.ensures.counted, read) new
+
+pub returns-clause-there : goal.returns-clause-there
+returns-clause-there g c = brought-there c.args.page _ _ _ (c.in_ok-replace_last.ensures {u = tt}).ok
 
 pub returns-clause-same : goal.returns-clause-same
 returns-clause-same g c told tells current =
