@@ -1,24 +1,20 @@
 //! The page cache of a file on a cell, over a device in memory.
 
-ghost use Rattle.std.specs.Prelude.{◌≡◌, ◌+◌, ◌<◌, ◌≤◌, true, length, IfOk, IfSome};
+ghost use Rattle.std.specs.Prelude.{◌≡◌, ◌+◌, ◌≤◌, true, length, IfOk};
 ghost use Rattle.vfs_base.specs.declared.limits.TheConstants.{PAGE_SIZE};
+ghost use Rattle.page_cache.specs.Resident.{holds_page};
+ghost use Rattle.cache_cases.specs.declared.ending.Ending.TheVariants.{Done};
 
+use crate::ending::{Ending, ending_of};
 use crate::logged_block::{LoggedBlock, PageCall};
 use case_forms::CaseFault;
-use page_cache::{AddressSpace, CacheFault};
+use page_cache::AddressSpace;
 use std::alloc::Global;
 use vfs_base::{CELL_PAGES_MAX, Counts, PAGE_SIZE};
 use vfs_outside::{Block, MemBlock};
 
 // The bytes of a page, as a length of arrays.
 const PAGE_BYTES: usize = PAGE_SIZE as usize;
-
-/// How a call of the cache came out, where there was memory.
-#[derive(Clone, Copy)]
-pub enum Ending {
-    Done,
-    Fault,
-}
 
 /// A file's pages and their device. A page of the cell that there is not, or a part that doesn't lie within a page, makes
 /// the case wrong: `Number`.
@@ -46,7 +42,9 @@ impl CellFile {
     }
 
     /// Brings the page into memory, in front of the others.
-    pub fn touch(&mut self, page: u16) -> Result<Ending, CaseFault> {
+    pub fn touch(&mut self, page: u16) -> Result<Ending, CaseFault>
+        ensures { IfOk result (λ ending. ending ≡ Done → holds_page self.new.space.resident page ≡ true) }
+    {
         if page >= self.device.pages() {
             return Err(CaseFault::Number);
         }
@@ -55,30 +53,26 @@ impl CellFile {
 
     /// Touches the page and puts the piece into it, from a place on.
     pub fn edit(&mut self, page: u16, at: u16, piece: &[u8]) -> Result<Ending, CaseFault> {
-        if page >= self.device.pages() || !fits_page(at, piece.len()) {
+        if !fits_page(at, piece.len()) {
             return Err(CaseFault::Number);
         }
-        match self.space.touch(&mut self.device, page) {
-            Ok(()) => {
-                self.space.edit(page, at, piece);
-                Ok(Ending::Done)
-            }
-            Err(fault) => fault_ending(fault),
+        let ending = self.touch(page)?;
+        if let Ending::Done = ending {
+            self.space.edit(page, at, piece);
         }
+        Ok(ending)
     }
 
     /// Touches the page and copies bytes of it, from a place on.
     pub fn copy_out(&mut self, page: u16, at: u16, out: &mut [u8]) -> Result<Ending, CaseFault> {
-        if page >= self.device.pages() || !fits_page(at, out.len()) {
+        if !fits_page(at, out.len()) {
             return Err(CaseFault::Number);
         }
-        match self.space.touch(&mut self.device, page) {
-            Ok(()) => {
-                self.space.copy_out(page, at, out);
-                Ok(Ending::Done)
-            }
-            Err(fault) => fault_ending(fault),
+        let ending = self.touch(page)?;
+        if let Ending::Done = ending {
+            self.space.copy_out(page, at, out);
         }
+        Ok(ending)
     }
 
     /// Writes the dirty pages.
@@ -144,18 +138,4 @@ fn fits_page(at: u16, count: usize) -> bool
     ensures { result ≡ true → at + count ≤ PAGE_SIZE }
 {
     count <= PAGE_BYTES && usize::from(at) <= PAGE_BYTES - count
-}
-
-fn ending_of(called: Result<(), CacheFault>) -> Result<Ending, CaseFault> {
-    match called {
-        Ok(()) => Ok(Ending::Done),
-        Err(fault) => fault_ending(fault),
-    }
-}
-
-fn fault_ending(fault: CacheFault) -> Result<Ending, CaseFault> {
-    match fault {
-        CacheFault::DeviceFault => Ok(Ending::Fault),
-        CacheFault::NoMemory => Err(CaseFault::NoMemory),
-    }
 }

@@ -1,6 +1,7 @@
 //! The lines of a case: a call of the cache, the calls of the device that it makes, and its answer.
 
-use crate::cell_file::{CellFile, Ending};
+use crate::cell_file::CellFile;
+use crate::ending::Ending;
 use crate::logged_block::PageCall;
 use crate::page_operation::{PageOperation, range_of};
 use case_forms::{CaseFault, Section, case_text, push_section, push_text, section_of};

@@ -5,6 +5,7 @@
 #![tactic(auto)]
 
 mod cell_file;
+mod ending;
 mod lines;
 mod logged_block;
 mod page_operation;

@@ -1,6 +1,7 @@
 //! What a line does with pages.
 
-use crate::cell_file::{CellFile, Ending};
+use crate::cell_file::CellFile;
+use crate::ending::Ending;
 use case_forms::{CaseFault, push_escaped};
 use vfs_base::Bytes;
 
