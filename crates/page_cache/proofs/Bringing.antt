@@ -29,14 +29,12 @@ brought-in middle after page bytes x y small read new =
     (completes-change mid end (in_front page) small refl (ap cache_in new))
 
 -- there was room
-pub room-touched : (before after : AddressSpace) (page : ℕ) (bytes : List ℕ) (x y : BlockDevice) → AreCounted y.counts → holds_page before.resident page ≡ false → length before.resident < RESIDENT_PAGES →
-    Completes (reading page) (record { space = before; device = x }) (record { space = before; device = y }) →
-    after ≡ record before { resident = clean_page page bytes ∷ before.resident } →
-    Completes (touching page) (record { space = before; device = x }) (record { space = after; device = y })
-room-touched before after page bytes x y small absent room read new =
-    let old : Moment = record { space = before; device = x } in
-    completes-as (touching page) (then_way (reading page) (changing (in_front page))) old (record { space = after; device = y }) (touched-room old page absent room)
-    (brought-in before after page bytes x y small read new)
+pub room-touched : (old new : Moment) (page : ℕ) (bytes : List ℕ) → AreCounted new.device.counts → holds_page old.space.resident page ≡ false → length old.space.resident < RESIDENT_PAGES →
+    Completes (reading page) old (record { space = old.space; device = new.device }) → new.space ≡ record old.space { resident = clean_page page bytes ∷ old.space.resident } →
+    Completes (touching page) old new
+room-touched old new page bytes small absent room read more =
+    completes-as (touching page) (then_way (reading page) (changing (in_front page))) old new (touched-room old page absent room)
+    (brought-in old.space new.space page bytes old.device new.device small read more)
 
 pub room-stopped : (before after : AddressSpace) (page : ℕ) (x y : BlockDevice) → holds_page before.resident page ≡ false → length before.resident < RESIDENT_PAGES →
     StopsAt (reading page) (record { space = before; device = x }) (record { space = after; device = y }) → StopsAt (touching page) (record { space = before; device = x }) (record { space = after; device = y })
@@ -49,7 +47,7 @@ room-stopped before after page x y absent room stopped =
 pub room-out : (before after : AddressSpace) (page : ℕ) (x y : BlockDevice) → AreCounted y.counts → holds_page before.resident page ≡ false → length before.resident < RESIDENT_PAGES →
     Completes (reading page) (record { space = before; device = x }) (record { space = before; device = y }) → RunsOut (touching page) (record { space = before; device = x }) (record { space = after; device = y })
 room-out before after page x y small absent room read =
-    let whole = room-touched before (record before { resident = clean_page page [] ∷ before.resident }) page [] x y small absent room read refl in
+    let whole = room-touched (record { space = before; device = x }) (record { space = record before { resident = clean_page page [] ∷ before.resident }; device = y }) page [] small absent room read refl in
     let out = runs-out (touching page) (record { space = before; device = x }) (record { space = record before { resident = clean_page page [] ∷ before.resident }; device = y }) whole in
     record { made = out.made; later = out.later; calls = out.calls; front = out.front }
 

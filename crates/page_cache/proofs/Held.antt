@@ -342,10 +342,10 @@ marked page v entries once found = mapped page (cleaned page) v (record v { is_d
 
 -- the page is edited
 pub edited-one : (page at : ℕ) (piece : List ℕ) (v w : Page) (entries : List (ℕ × Page)) → IsDistinct nat_eq (keys_of entries) → lookup (nat_eq page) entries ≡ Some v →
-    w.is_dirty ≡ true → w.bytes.items ≡ spliced at piece v.bytes.items →
+    (w.is_dirty ≡ true) × (w.bytes.items ≡ spliced at piece v.bytes.items) →
     cached_pages (set_value (nat_eq page) entries w) ≡ map (edited page at piece) (cached_pages entries)
-edited-one page at piece v w entries once found dirty bytes = mapped page (edited page at piece) v w entries once found
-    (λ key e. ap₂ (λ d items. let r : CachedPage = record { page = key; is_dirty = d; bytes = items } in r) dirty bytes
+edited-one page at piece v w entries once found new = mapped page (edited page at piece) v w entries once found
+    (λ key e. ap₂ (λ d items. let r : CachedPage = record { page = key; is_dirty = d; bytes = items } in r) new.0 new.1
     ∙ sym (ap (λ t. if t then record (cached_page (key, v)) { is_dirty = true; bytes = spliced at piece v.bytes.items } else cached_page (key, v)) (turned key page ∙ e)))
     (edited-other page at piece)
 
@@ -383,6 +383,9 @@ got : (n : ℕ) (entries : List (ℕ × Page)) → n < length entries → slice_
 got n [] low = absurd (omega (arith, low))
 got zero (e ∷ entries) low = λ none. absurd (cc)
 got (suc n) (e ∷ entries) low = got n entries (omega (arith, low))
+
+pub absent-in : (entries : List (ℕ × Page)) (seen : List CachedPage) (page : ℕ) → cached_pages entries ≡ seen → holds_page seen page ≡ false → holds_page (cached_pages entries) page ≡ false
+absent-in entries seen page is absent = ap (λ xs. holds_page xs page) is ∙ absent
 
 absent-value : (page : ℕ) (entries : List (ℕ × Page)) → holds_page (cached_pages entries) page ≡ false → lookup (nat_eq page) entries ≡ None
 absent-value page [] h = refl

@@ -71,22 +71,28 @@ kept-below q r keep a (suc n) same = by (q a) (nat_lt a keep) refl (same a (omeg
     by false true f e rest = rw (e, f) rest
     by false false f e rest = rw (e, f) rest
 
+-- The first test holds at a page and at none below; the second does not hold there, and else agrees below an end.
+pub record LosesFirst (q r : ℕ → Bool) (page end : ℕ) : Type 0 where
+  pub none : (x : ℕ) → x < page → q x ≡ false
+  pub here : q page ≡ true
+  pub gone : r page ≡ false
+  pub same : (x : ℕ) → x < end → x ≢ page → r x ≡ q x
+
 -- without the least page
-pub kept-first : (q r : ℕ → Bool) (page a n : ℕ) → a ≤ page → page < a + n → ((x : ℕ) → x < page → q x ≡ false) → q page ≡ true → r page ≡ false →
-    ((x : ℕ) → x < a + n → x ≢ page → r x ≡ q x) → filter q (range_with_len a n) ≡ page ∷ filter r (range_with_len a n)
-kept-first q r page a zero low high none here gone same = absurd (omega (arith, low, high))
-kept-first q r page a (suc n) low high none here gone same = elim (eqb_tells page a) as (λ _. filter q (range_with_len a (suc n)) ≡ page ∷ filter r (range_with_len a (suc n))) [
+pub kept-first : (q r : ℕ → Bool) (page a n : ℕ) → a ≤ page → page < a + n → LosesFirst q r page (a + n) → filter q (range_with_len a n) ≡ page ∷ filter r (range_with_len a n)
+kept-first q r page a zero low high h = absurd (omega (arith, low, high))
+kept-first q r page a (suc n) low high h = elim (eqb_tells page a) as (λ _. filter q (range_with_len a (suc n)) ≡ page ∷ filter r (range_with_len a (suc n))) [
   | inl p ↦
-      let kept : q a ≡ true = ap q (sym p.1) ∙ here in
-      let lost : r a ≡ false = ap r (sym p.1) ∙ gone in
+      let kept : q a ≡ true = ap q (sym p.1) ∙ h.here in
+      let lost : r a ≡ false = ap r (sym p.1) ∙ h.gone in
       rw (kept, lost) (ap₂ (λ x xs. x ∷ xs) (sym p.1)
-      (kept-same q r (a + 1) n (λ x from to. sym (same x (omega (arith, to)) (λ e. let one = p.1 in absurd (omega (arith, from, e, one)))))))
+      (kept-same q r (a + 1) n (λ x from to. sym (h.same x (omega (arith, to)) (λ e. let one = p.1 in absurd (omega (arith, from, e, one)))))))
   | inr p ↦
       let apart : page ≢ a = p.1 in
       let above : a < page = omega (arith, low, apart) in
-      let kept : q a ≡ false = none a above in
-      let lost : r a ≡ false = same a (omega arith) (λ e. apart (sym e)) ∙ kept in
-      rw (kept, lost) (kept-first q r page (a + 1) n (omega (arith, above)) (omega (arith, high)) none here gone (λ x to. same x (omega (arith, to))))
+      let kept : q a ≡ false = h.none a above in
+      let lost : r a ≡ false = h.same a (omega arith) (λ e. apart (sym e)) ∙ kept in
+      rw (kept, lost) (kept-first q r page (a + 1) n (omega (arith, above)) (omega (arith, high)) (record { none = h.none; here = h.here; gone = h.gone; same = λ x to. h.same x (omega (arith, to)) }))
 ]
 
 -- a range has nothing below its start

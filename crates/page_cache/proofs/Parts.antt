@@ -1,5 +1,5 @@
 -- What the parts of the calls leave, of the values before and after them.
-use Rattle.std.specs.Prelude.{◌≡◌, ℕ, zero, suc, ◌-◌, ◌<◌, ◌==◌, Bool, true, false, cond, nat_eq, Option, Some, None, IfSome, List, [], ◌∷◌, ◌++◌, length, map, find, take, drop, slice_index_or, slice_set, Result, Ok, Err, OnErr, OnOk, IfErr, is_err, if◌then◌else◌, refl}
+use Rattle.std.specs.Prelude.{◌≡◌, ℕ, zero, suc, ◌-◌, ◌<◌, ◌≤◌, ◌==◌, Bool, true, false, cond, nat_eq, Option, Some, None, IfSome, List, [], ◌∷◌, ◌++◌, length, map, find, take, drop, slice_index_or, slice_set, Result, Ok, Err, OnErr, OnOk, IfErr, is_err, if◌then◌else◌, refl}
 use Rattle.std.proofs.Common.{sym, ◌∙◌, ap, subst, arith}
 use Rattle.std.proofs.lemmas.Map.Keys.{IsDistinct-head, IsDistinct-tail}
 use Rattle.std.proofs.lemmas.List.{append-nil, drop_all, length-map, take_all}
@@ -9,18 +9,27 @@ use Rattle.std.specs.List.{AllByRecursion, IsDistinct, last_or}
 use Rattle.std.specs.Option.{option_or}
 use Rattle.std.specs.Result.{IsErrAnd}
 use Rattle.std.specs.Ordering.{nat_cmp}
+use Rattle.vfs_base.specs.declared.limits.TheConstants.{RECLAIM_TARGET}
 use Rattle.vfs_model.specs.BlockDevice.{BlockDevice, Makes}
 use Rattle.vfs_model.specs.Cache.{without_last}
 use Rattle.vfs_model.specs.PageList.{CachedPage, device_bytes, slot_of}
 use Rattle.vfs_model.specs.declared.cache.CacheState.{CacheState}
 use Rattle.vfs_model.specs.declared.cache.DeviceCall.TheVariants as call
 use Rattle.page_cache.specs.AddressSpace.{AddressSpace, Completes, IsCurrent, KeepsPages, Moment, SamePages, StopsAt, cache_in, page_of, space_of}
-use Rattle.page_cache.specs.Framed.{AreCounted, IsSettled, SettlesEnd, changing, cleaning, evicting, then_way, writing_end}
+use Rattle.page_cache.specs.Framed.{AreCounted, IsSettled, SettlesEnd, changing, cleaning, evicting, evicting_many, then_way, writing_end}
 use Rattle.page_cache.specs.Resident.{AreResident, bytes_in, bytes_of, cleaned, dirty_end, dirty_one, edited, holds_page, is_cached}
 use Rattle.page_cache.proofs.Found.{alike, cleaned-page, edited-page, front-last, same-number}
 use Rattle.page_cache.proofs.Pages.{below, below-here, left-same, marked-same, same-all, same-then, written-same}
 use Rattle.page_cache.proofs.Runs.{completes-as, completes-change, completes-then, stops-as, stops-first}
-use Rattle.page_cache.proofs.Ways.{clean-end, cleaned-one, evicted, failed-clean, failed-end, none-empty, wrote-end}
+use Rattle.page_cache.proofs.Ways.{clean-end, cleaned-one, evicted, evicted-none, failed-clean, failed-end, none-empty, wrote-end}
+
+-- the pages, beside their device
+abbrev pub at : AddressSpace → BlockDevice → Moment
+at space device = record { space = space; device = device }
+
+-- the last page in memory is gone
+abbrev pub without_end : AddressSpace → AddressSpace
+without_end a = record a { resident = take (length a.resident - 1) a.resident }
 
 -- the last page, where it is dirty
 pub record LastDirty (resident : List CachedPage) (page : ℕ) (bytes : List ℕ) : Type 0 where
@@ -106,13 +115,13 @@ found-last resident x sound last =
     ∙ ap (λ t. cond t (Some x) None) (alike x.page)
 
 -- the last page is dirty, and was written
-pub end-written : (a before after : AddressSpace) (x y : BlockDevice) (page : ℕ) (bytes : List ℕ) → a ≡ before → after ≡ record a { stored = insert_key nat_cmp a.stored page } →
-    LastDirty a.resident page bytes → Makes (call.Write page ∷ []) [] x y → Completes writing_end (record { space = before; device = x }) (record { space = after; device = y })
-end-written a before after x y page bytes old new h calls =
-    let P : AddressSpace → AddressSpace → Type 0 = λ s t. Completes writing_end (record { space = s; device = x }) (record { space = t; device = y }) in
+pub end-written : (a : AddressSpace) (old new : Moment) (page : ℕ) (bytes : List ℕ) → a ≡ old.space → new.space ≡ record a { stored = insert_key nat_cmp a.stored page } →
+    LastDirty a.resident page bytes → Makes (call.Write page ∷ []) [] old.device new.device → Completes writing_end old new
+end-written a old new page bytes is more h calls =
+    let P : AddressSpace → AddressSpace → Type 0 = λ s t. Completes writing_end (record { space = s; device = old.device }) (record { space = t; device = new.device }) in
     let Q : ℕ → Type 0 = λ p. P a (record a { stored = insert_key nat_cmp a.stored p }) in
-    subst (λ s. P s after) old (subst (P a) (sym new)
-    (subst Q h.page_is (wrote-end a h.cached x y h.last h.dirty (subst (λ p. Makes (call.Write p ∷ []) [] x y) (sym h.page_is) calls))))
+    subst (λ s. P s new.space) is (subst (P a) (sym more)
+    (subst Q h.page_is (wrote-end a h.cached old.device new.device h.last h.dirty (subst (λ p. Makes (call.Write p ∷ []) [] old.device new.device) (sym h.page_is) calls))))
 
 pub end-failed : (a before : AddressSpace) (x y : BlockDevice) (page : ℕ) (bytes : List ℕ) → a ≡ before → LastDirty a.resident page bytes → Makes [] (call.Write page ∷ []) x y →
     StopsAt writing_end (record { space = before; device = x }) (record { space = before; device = y })
@@ -125,20 +134,27 @@ pub end-clean : (a before : AddressSpace) (x : BlockDevice) → a ≡ before →
 end-clean a before x old small none =
     subst (λ s. Completes writing_end (record { space = s; device = x }) (record { space = s; device = x })) old (clean-end a x small (last-clean a.resident none))
 
+-- The last page is dirty, and one of the cell's.
+pub record DirtyEnd (a : AddressSpace) (page : ℕ) (bytes : List ℕ) : Type 0 where
+  pub sound : AreResident a.resident
+  pub within : page < a.pages
+  pub last : LastDirty a.resident page bytes
+
 -- the pages stay the same when the last one is written, which may leave then
-pub written-settles : (a before after : AddressSpace) (page : ℕ) (bytes : List ℕ) (told : List (List ℕ)) → a ≡ before → after ≡ record a { stored = insert_key nat_cmp a.stored page } →
-    AreResident a.resident → page < a.pages → LastDirty a.resident page bytes → IsCurrent before told →
+pub written-settles : (a before after : AddressSpace) (page : ℕ) (bytes : List ℕ) → a ≡ before → after ≡ record a { stored = insert_key nat_cmp a.stored page } →
+    DirtyEnd a page bytes → (told : List (List ℕ)) → IsCurrent before told →
     SamePages before after told (slice_set told page bytes) × IsSettled after (slice_set told page bytes) (last_or None after.resident)
-written-settles a before after page bytes told old new sound within h current =
+written-settles a before after page bytes old new end = λ told current.
+    let h = end.last in
     let b : AddressSpace = record a { stored = insert_key nat_cmp a.stored page } in
     let here : IsCurrent a told = subst (λ s. IsCurrent s told) (sym old) current in
     let now : List (List ℕ) = slice_set told page bytes in
-    let found : find (is_cached page) a.resident ≡ Some h.cached = subst (λ p. find (is_cached p) a.resident ≡ Some h.cached) h.page_is (found-last a.resident h.cached sound h.last) in
-    let same : SamePages a b told now = subst (λ bs. SamePages a b told (slice_set told page bs)) h.bytes_is (written-same a page h.cached told within found here) in
-    let deep : page < length told = (let w = here.whole in omega (arith, w, within)) in
-    let end : IsSettled b now (Some h.cached) =
+    let found : find (is_cached page) a.resident ≡ Some h.cached = subst (λ p. find (is_cached p) a.resident ≡ Some h.cached) h.page_is (found-last a.resident h.cached end.sound h.last) in
+    let same : SamePages a b told now = subst (λ bs. SamePages a b told (slice_set told page bs)) h.bytes_is (written-same a page h.cached told end.within found here) in
+    let deep : page < length told = (let w = here.whole in let within = end.within in omega (arith, w, within)) in
+    let settled : IsSettled b now (Some h.cached) =
     h.bytes_is ∙ sym (below-here a page bytes told deep) ∙ ap (device_bytes (space_of b) (page_of now)) (sym h.page_is) in
-    let whole : IsSettled b now (last_or None b.resident) = subst (IsSettled b now) (sym h.last) end in (
+    let whole : IsSettled b now (last_or None b.resident) = subst (IsSettled b now) (sym h.last) settled in (
       subst (λ s. SamePages s after told now) old (subst (λ t. SamePages a t told now) (sym new) same),
       subst (λ (t : AddressSpace). IsSettled t now (last_or None t.resident)) (sym new) whole,
     )
@@ -196,18 +212,36 @@ found-held page (x ∷ resident) there = (elim (x.page == page) as (λ t. (x.pag
   | false ↦ λ f. let rest = found-held page resident (rw f at there) in (rest.0, rw f rest.1)
 ]) refl
 
+-- The page is in memory, with these bytes, and one of the cell's.
+pub record HoldsBytes (a : AddressSpace) (page : ℕ) (bytes : List ℕ) : Type 0 where
+  pub within : page < a.pages
+  pub there : holds_page a.resident page ≡ true
+  pub bytes_are : bytes ≡ bytes_in a.resident page
+
+-- a page in memory is one of the cell's, by the parts of the address space
+pub page-within : (a before : AddressSpace) (page : ℕ) → a ≡ before → AllByRecursion (λ c. c.page < a.pages) a.resident → holds_page before.resident page ≡ true → page < a.pages
+page-within a before page is all there = held-within a.pages page a.resident all (ap (λ (s : AddressSpace). holds_page s.resident page) is ∙ there)
+
+pub holds-bytes : (a before : AddressSpace) (page : ℕ) (bytes : List ℕ) → a ≡ before → AllByRecursion (λ c. c.page < a.pages) a.resident → holds_page before.resident page ≡ true →
+    bytes ≡ bytes_in a.resident page → HoldsBytes a page bytes
+holds-bytes a before page bytes is all there bytes_are = record {
+  within = page-within a before page is all there;
+  there = ap (λ (s : AddressSpace). holds_page s.resident page) is ∙ there;
+  bytes_are = bytes_are;
+}
+
 -- the pages stay the same when one is written and marked clean
-pub cleaned-keeps : (a before after : AddressSpace) (page : ℕ) (bytes : List ℕ) (told : List (List ℕ)) → a ≡ before →
-    after ≡ record a { resident = map (cleaned page) a.resident; stored = insert_key nat_cmp a.stored page } → page < a.pages → holds_page a.resident page ≡ true →
-    bytes ≡ bytes_in a.resident page → IsCurrent before told → SamePages before after told (slice_set told page bytes)
-cleaned-keeps a before after page bytes told old new within there bytes_are current =
+pub cleaned-keeps : (a before after : AddressSpace) (page : ℕ) (bytes : List ℕ) → a ≡ before →
+    after ≡ record a { resident = map (cleaned page) a.resident; stored = insert_key nat_cmp a.stored page } → HoldsBytes a page bytes →
+    (told : List (List ℕ)) → IsCurrent before told → SamePages before after told (slice_set told page bytes)
+cleaned-keeps a before after page bytes old new h = λ told current.
     let here : IsCurrent a told = subst (λ s. IsCurrent s told) (sym old) current in
-    let found = found-held page a.resident there in
-    let is : bytes ≡ found.0.bytes = bytes_are ∙ ap bytes_of found.1 in
+    let found = found-held page a.resident h.there in
+    let is : bytes ≡ found.0.bytes = h.bytes_are ∙ ap bytes_of found.1 in
     let b : AddressSpace = record a { stored = insert_key nat_cmp a.stored page } in
     let now : List (List ℕ) = slice_set told page bytes in
-    let first : SamePages a b told now = subst (λ bs. SamePages a b told (slice_set told page bs)) (sym is) (written-same a page found.0 told within found.1 here) in
-    let deep : page < length told = (let w = here.whole in omega (arith, w, within)) in
+    let first : SamePages a b told now = subst (λ bs. SamePages a b told (slice_set told page bs)) (sym is) (written-same a page found.0 told h.within found.1 here) in
+    let deep : page < length told = (let w = here.whole in let within = h.within in omega (arith, w, within)) in
     let settled : (c : CachedPage) → find (is_cached page) b.resident ≡ Some c → c.bytes ≡ below b now page =
     λ c e. let same : found.0 ≡ c = (let x = found.1 in cc) in ap (λ (y : CachedPage). y.bytes) (sym same) ∙ sym is ∙ sym (below-here a page bytes told deep) in
     let second = marked-same b page now settled first.current in
@@ -233,19 +267,17 @@ slots-taken (suc n) [] = refl
 slots-taken (suc n) (x ∷ xs) = ap (λ rest. slot_of x ∷ rest) (slots-taken n xs)
 
 -- the last page was written where it was dirty, and leaves
-pub end-left : (before middle after : AddressSpace) (x y : BlockDevice) → AreCounted y.counts → Completes writing_end (record { space = before; device = x }) (record { space = middle; device = y }) →
-    after ≡ record middle { resident = take (length middle.resident - 1) middle.resident } →
-    Completes evicting (record { space = before; device = x }) (record { space = after; device = y })
-end-left before middle after x y small written left =
-    let old : Moment = record { space = before; device = x } in
-    let mid : Moment = record { space = middle; device = y } in
-    let new : Moment = record { space = after; device = y } in
-    let slots : map slot_of (take (length middle.resident - 1) middle.resident) ≡ take (length (map slot_of middle.resident) - 1) (map slot_of middle.resident) =
-    slots-taken (length middle.resident - 1) middle.resident ∙ ap (λ n. take (n - 1) (map slot_of middle.resident)) (sym (length-map middle.resident slot_of)) in
-    let cache : cache_in after ≡ without_last (cache_in middle) =
-    ap cache_in left ∙ ap (λ resident. let s : CacheState = record { resident = resident; stored = middle.stored } in s) slots in
+pub end-left : (old middle : Moment) (after : AddressSpace) → AreCounted middle.device.counts → Completes writing_end old middle → after ≡ without_end middle.space →
+    Completes evicting old (at after middle.device)
+end-left old middle after small written left =
+    let new : Moment = at after middle.device in
+    let pages : List CachedPage = middle.space.resident in
+    let slots : map slot_of (take (length pages - 1) pages) ≡ take (length (map slot_of pages) - 1) (map slot_of pages) =
+    slots-taken (length pages - 1) pages ∙ ap (λ n. take (n - 1) (map slot_of pages)) (sym (length-map pages slot_of)) in
+    let cache : cache_in after ≡ without_last (cache_in middle.space) =
+    ap cache_in left ∙ ap (λ resident. let s : CacheState = record { resident = resident; stored = middle.space.stored } in s) slots in
     completes-as evicting (then_way writing_end (changing without_last)) old new (evicted old)
-    (completes-then writing_end (changing without_last) old mid new written (completes-change mid new without_last small refl cache))
+    (completes-then writing_end (changing without_last) old middle new written (completes-change middle new without_last small refl cache))
 
 -- where its write fails, the eviction stops
 pub end-stopped : (before after : AddressSpace) (x y : BlockDevice) → StopsAt writing_end (record { space = before; device = x }) (record { space = after; device = y }) →
@@ -263,14 +295,20 @@ left-by a told None last settled current =
 left-by a told (Some x) last settled current = left-same a x told last settled current
 
 -- the pages stay the same when the last one leaves
-pub left-keeps : (before middle after : AddressSpace) (x y : BlockDevice) → SettlesEnd (record { space = before; device = x }) (record { space = middle; device = y }) →
-    after ≡ record middle { resident = take (length middle.resident - 1) middle.resident } →
-    KeepsPages (record { space = before; device = x }) (record { space = after; device = y })
-left-keeps before middle after x y settles left told tells current =
+pub left-keeps : (old middle : Moment) (after : AddressSpace) → SettlesEnd old middle → after ≡ without_end middle.space → KeepsPages old (at after middle.device)
+left-keeps old middle after settles left = λ told tells current.
     let first = settles told tells current in
-    let b : AddressSpace = record middle { resident = take (length middle.resident - 1) middle.resident } in
-    let second : SamePages middle b first.0 first.0 = left-by middle first.0 (last_or None middle.resident) refl first.3 first.2.current in
-    (first.0, first.1, subst (λ t. SamePages before t told first.0) (sym left) (same-then before middle b told first.0 first.0 first.2 second))
+    let a = middle.space in
+    let second : SamePages a (without_end a) first.0 first.0 = left-by a first.0 (last_or None a.resident) refl first.3 first.2.current in
+    (first.0, first.1, subst (λ t. SamePages old.space t told first.0) (sym left) (same-then old.space a (without_end a) told first.0 first.0 first.2 second))
+
+-- where at most so many pages are in memory as may stay, none is left to go
+pub none-left : (a : AddressSpace) (now : Moment) (count : ℕ) → a ≡ now.space → count ≡ length a.resident → count ≤ RECLAIM_TARGET → AreCounted now.device.counts →
+    Completes (evicting_many (length now.space.resident - RECLAIM_TARGET)) now now
+none-left a now count is counted few small =
+    let seen = ap (λ (s : AddressSpace). length s.resident) is in
+    let none : 0 ≡ length now.space.resident - RECLAIM_TARGET = omega (arith, seen, counted, few) in
+    subst (λ n. Completes (evicting_many n) now now) none (evicted-none now small)
 
 pub told-read : (o : Option (List (List ℕ))) (told : List (List ℕ)) (page : ℕ) (bytes : List ℕ) → IfSome o (λ pages. bytes ≡ slice_index_or pages page []) → o ≡ Some told → bytes ≡ page_of told page
 told-read None told page bytes read e = absurd (cc)

@@ -145,9 +145,16 @@ out-as w v a b same h = record {
 pub rests-all : (w v : Way) (old : Moment) → Alike w v old → Rests w old v old
 rests-all w v old same = record { completes = λ new h. completes-as w v old new same h; stops = λ new h. stops-as w v old new same h }
 
+-- the rest, told otherwise
+pub rests-as : (w rest v : Way) (old now : Moment) → Alike rest v now → Rests w old rest now → Rests w old v now
+rests-as w rest v old now same left = record {
+  completes = λ new h. left.completes new (completes-as rest v now new same h);
+  stops = λ new h. left.stops new (stops-as rest v now new same h);
+}
+
 -- one way more was gone of the rest
-pub rests-then : (w u v rest : Way) (old now next : Moment) → Alike rest (then_way u v) now → Rests w old rest now → Completes u now next → Rests w old v next
-rests-then w u v rest old now next same left done = record {
-  completes = λ new h. left.completes new (completes-as rest (then_way u v) now new same (completes-then u v now next new done h));
-  stops = λ new h. left.stops new (stops-as rest (then_way u v) now new same (stops-then u v now next new done h));
+pub rests-then : (w u v : Way) (old now next : Moment) → Rests w old (then_way u v) now → Completes u now next → Rests w old v next
+rests-then w u v old now next left done = record {
+  completes = λ new h. left.completes new (completes-then u v now next new done h);
+  stops = λ new h. left.stops new (stops-then u v now next new done h);
 }

@@ -154,29 +154,39 @@ none-before words place bit low zeros lower x below = elim (cases_lt (x / 64) pl
       by-bit words x ∙ ap (λ i. bit_at (slice_index_or words i 0) (x % 64) == 1) high ∙ ap (λ b. b == 1) (lower (x % 64) (omega (arith, high, below)))
 ]
 
+-- The words before a place have no bit, and the one that was read there has one.
+pub record IsFirstWord (words : List ℕ) (place read : ℕ) : Type 0 where
+  pub count : length words ≡ 16
+  pub within : place < 16
+  pub zeros : (i : ℕ) → i < place → slice_index_or words i 0 ≡ 0
+  pub some : 0 < slice_index_or words read 0
+  pub small : slice_index_or words read 0 < 2 ^ 64
+
 -- the set without its first page
-pub first-page : (words : List ℕ) (place later : ℕ) → later ≡ place → length words ≡ 16 → place < 16 → ((i : ℕ) → i < place → slice_index_or words i 0 ≡ 0) →
-    0 < slice_index_or words place 0 → slice_index_or words place 0 < 2 ^ 64 →
+pub first-page : (words : List ℕ) (place later : ℕ) → later ≡ place → IsFirstWord words place place →
     (let bit : ℕ = trailing_zeros w64 (slice_index_or words place 0) in
     pages_in words ≡ (64 * place + bit) ∷ pages_in (slice_set words later (bit_and (slice_index_or words later 0) (bit_not w64 (1 * 2 ^ bit % 2 ^ 64)))))
 unfolding pages_in
-first-page words place later same count within zeros some small =
+first-page words place later same h =
     let bit : ℕ = trailing_zeros w64 (slice_index_or words place 0) in
-    let least = bit_at-trailing_zeros w64 (slice_index_or words place 0) some small in
+    let least = bit_at-trailing_zeros w64 (slice_index_or words place 0) h.some h.small in
     let low : bit < 64 = least.0 in
-    let inside : place < length words = omega (arith, within, count) in
+    let inside : place < length words = (let within = h.within in let count = h.count in omega (arith, within, count)) in
     let new : ℕ → List ℕ = λ k. slice_set words k (bit_and (slice_index_or words k 0) (bit_not w64 (1 * 2 ^ bit % 2 ^ 64))) in
-    kept-first (has_page words) (has_page (new place)) (64 * place + bit) 0 1024 (omega arith) (omega (arith, within, low))
-    (none-before words place bit low zeros least.2) (first-bit words place bit low least.1) (bit-gone words place bit inside low)
-    (λ x high apart. clear-bit words place bit inside low x apart)
+    kept-first (has_page words) (has_page (new place)) (64 * place + bit) 0 1024 (omega arith) (let within = h.within in omega (arith, within, low))
+    (record {
+      none = none-before words place bit low h.zeros least.2;
+      here = first-bit words place bit low least.1;
+      gone = bit-gone words place bit inside low;
+      same = λ x high apart. clear-bit words place bit inside low x apart;
+    })
     ∙ ap (λ k. (64 * place + bit) ∷ filter (has_page (new k)) (range_with_len 0 1024)) (sym same)
 
-pub first-read : (words : List ℕ) (place read later : ℕ) → read ≡ place → later ≡ place → length words ≡ 16 → place < 16 → ((i : ℕ) → i < place → slice_index_or words i 0 ≡ 0) →
-    0 < slice_index_or words read 0 → slice_index_or words read 0 < 2 ^ 64 →
+pub first-read : (words : List ℕ) (place read later : ℕ) → read ≡ place → later ≡ place → IsFirstWord words place read →
     (let bit : ℕ = trailing_zeros w64 (slice_index_or words read 0) in
     pages_in words ≡ (64 * place + bit) ∷ pages_in (slice_set words later (bit_and (slice_index_or words later 0) (bit_not w64 (1 * 2 ^ bit % 2 ^ 64)))))
-first-read words place read later at same count within zeros some small =
+first-read words place read later at same h =
     let word : slice_index_or words place 0 ≡ slice_index_or words read 0 = ap (λ i. slice_index_or words i 0) (sym at) in
     let P : ℕ → Type 0 = λ w. pages_in words ≡ (64 * place + trailing_zeros w64 w)
     ∷ pages_in (slice_set words later (bit_and (slice_index_or words later 0) (bit_not w64 (1 * 2 ^ trailing_zeros w64 w % 2 ^ 64)))) in
-    subst P word (first-page words place later same count within zeros (omega (arith, word, some)) (omega (arith, word, small)))
+    subst P word (first-page words place later same (subst (IsFirstWord words place) at h))

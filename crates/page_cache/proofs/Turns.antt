@@ -18,8 +18,7 @@ use Rattle.page_cache.specs.Framed.{AreCounted, changing}
 use Rattle.page_cache.specs.Resident.{bytes_in, bytes_of, cleaned, edited, holds_page, is_cached, spliced, with_front}
 use Rattle.page_cache.proofs.Found.{alike, differs, find-edited, same-number, cleaned-page, find-kept, find-lost}
 use Rattle.page_cache.proofs.Pages.{Clean, below, bytes_at, front-same}
-use Rattle.page_cache.proofs.Parts.{found-held}
-use Rattle.page_cache.proofs.Replacing.{at}
+use Rattle.page_cache.proofs.Parts.{at, found-held}
 use Rattle.page_cache.proofs.Runs.{completes-as, completes-change}
 use Rattle.page_cache.proofs.Ways.{touched-front}
 
@@ -93,9 +92,9 @@ clean-edited page at q piece bytes (Some c) h = elim (is_cached page c) as (λ t
     ]
 
 -- an edit leaves the clean pages as they lie on the device
-pub edited-current : (a before after : AddressSpace) (page at : ℕ) (piece : List ℕ) (told : List (List ℕ)) → a ≡ before →
-    after ≡ record a { resident = map (edited page at piece) a.resident } → IsCurrent before told → IsCurrent after told
-edited-current a before after page at piece told old new current =
+pub edited-current : (a before after : AddressSpace) (page at : ℕ) (piece : List ℕ) → a ≡ before →
+    after ≡ record a { resident = map (edited page at piece) a.resident } → (told : List (List ℕ)) → IsCurrent before told → IsCurrent after told
+edited-current a before after page at piece old new = λ told current.
     let here : IsCurrent a told = subst (λ s. IsCurrent s told) (sym old) current in
     subst (λ s. IsCurrent s told) (sym new) (record {
       whole = here.whole;
@@ -156,10 +155,10 @@ edited-here a page at piece told found =
     ∙ ap (spliced at piece) (sym (ap bytes_of found.1))
 
 -- an edit changes one page of the file
-pub edited-pages : (a before after : AddressSpace) (page at : ℕ) (piece : List ℕ) (told : List (List ℕ)) → a ≡ before →
-    after ≡ record a { resident = map (edited page at piece) a.resident } → holds_page before.resident page ≡ true → page < before.pages →
+pub edited-pages : (a before after : AddressSpace) (page at : ℕ) (piece : List ℕ) → a ≡ before →
+    after ≡ record a { resident = map (edited page at piece) a.resident } → holds_page before.resident page ≡ true → (told : List (List ℕ)) → page < before.pages →
     file_pages after told ≡ slice_set (file_pages before told) page (spliced at piece (bytes_in before.resident page))
-edited-pages a before after page at piece told old new there within =
+edited-pages a before after page at piece old new there = λ told within.
     let b : AddressSpace = record a { resident = map (edited page at piece) a.resident } in
     let held : holds_page a.resident page ≡ true = ap (λ (s : AddressSpace). holds_page s.resident page) old ∙ there in
     let low : page < a.pages = subst (λ (s : AddressSpace). page < s.pages) (sym old) within in

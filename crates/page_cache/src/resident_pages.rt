@@ -1,4 +1,4 @@
-ghost use Rattle.std.specs.Prelude.{◌≡◌, ◌<◌, ◌+◌, ◌-◌, ◌≤◌, ◌∷◌, [], true, false, length, map, filter, take, nat_lt, nat_le, OnOk, OnErr, IfOk, IfSome, option_map};
+ghost use Rattle.std.specs.Prelude.{◌≡◌, ◌<◌, ◌+◌, ◌-◌, ◌≤◌, ◌∷◌, [], true, false, length, map, filter, take, nat_lt, nat_le, OnOk, OnErr, IfNone, IfOk, IfSome};
 ghost use Rattle.std.specs.List.{AllByRecursion};
 ghost use Rattle.vfs_base.specs.declared.limits.TheConstants.{CELL_PAGES_MAX, PAGE_SIZE, RESIDENT_PAGES};
 ghost use Rattle.vfs_model.specs.Cache.{dirty_pages};
@@ -70,7 +70,8 @@ impl ResidentPages {
 
     /// The last page, where it is dirty, with its bytes.
     pub(crate) fn dirty_last(&self) -> Option<(u16, &[u8])>
-        ensures last { option_map (λ last. (last.0, last.1.now)) result ≡ dirty_end self.now }
+        ensures some { IfSome result (λ last. Some (last.0, last.1.now) ≡ dirty_end self.now) }
+        ensures none { IfNone result (None ≡ dirty_end self.now) }
         ensures whole { IfSome result (λ last. length last.1.now ≡ PAGE_SIZE) }
         ensures sound { AreResident self.now }
     {

@@ -34,7 +34,7 @@ returns-clause-ok g c =
     ((c.in_ok-load.ensures {u = tt}).ok c.self.inside.resident c.self.inside.pages) in
     let new = ap (λ resident. let a : AddressSpace = record { pages = c.self.inside.pages; resident = resident; stored = pages_in c.self.inside.stored.words } in a) (c.in_ok-add.ensures {u = tt}).ok
     ∙ ap (λ (s : AddressSpace). let a : AddressSpace = record s { resident = clean_page c.args.page c.load.new.frame.items ∷ s.resident } in a) c.self.view_is in
-    room-touched c.args.self.now _ c.args.page c.load.new.frame.items _ _ (c.in_ok-load.ensures {u = tt}).counted c.requires.absent c.requires.room read new
+    room-touched _ _ c.args.page c.load.new.frame.items (c.in_ok-load.ensures {u = tt}).counted c.requires.absent c.requires.room read new
 
 pub returns-clause-there : goal.returns-clause-there
 returns-clause-there g c = brought-there c.args.page _ _ _ (c.in_ok-add.ensures {u = tt}).ok

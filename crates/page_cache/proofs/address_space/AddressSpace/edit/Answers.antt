@@ -17,12 +17,12 @@ invariant_of-self c = record {
 }
 
 pub returns-clause-current : goal.returns-clause-current
-returns-clause-current c told current =
-    edited-current (seen c.self.inside.pages c.self.inside.resident c.self.inside.stored) _ _ c.args.page c.args.at c.args.piece.now told c.self.view_is
-    (ap (λ resident. let a : AddressSpace = record { pages = c.self.inside.pages; resident = resident; stored = pages_in c.self.inside.stored.words } in a) c.edit.ensures) current
+returns-clause-current c =
+    edited-current (seen c.self.inside.pages c.self.inside.resident c.self.inside.stored) _ _ c.args.page c.args.at c.args.piece.now c.self.view_is
+    (ap (λ resident. let a : AddressSpace = record { pages = c.self.inside.pages; resident = resident; stored = pages_in c.self.inside.stored.words } in a) c.edit.ensures)
 
 pub returns-clause-pages : goal.returns-clause-pages
-returns-clause-pages c told within =
-    edited-pages (seen c.self.inside.pages c.self.inside.resident c.self.inside.stored) _ _ c.args.page c.args.at c.args.piece.now told c.self.view_is
+returns-clause-pages c =
+    edited-pages (seen c.self.inside.pages c.self.inside.resident c.self.inside.stored) _ _ c.args.page c.args.at c.args.piece.now c.self.view_is
     (ap (λ resident. let a : AddressSpace = record { pages = c.self.inside.pages; resident = resident; stored = pages_in c.self.inside.stored.words } in a) c.edit.ensures)
-    c.requires.there within
+    c.requires.there

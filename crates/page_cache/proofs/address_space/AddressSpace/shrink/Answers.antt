@@ -1,11 +1,11 @@
 use Rattle.std.proofs.Common.{◌≡◌, ◌∙◌, ◌-◌, ap, subst, arith, length, refl, suc}
 use Rattle.vfs_base.specs.declared.limits.TheConstants.{RECLAIM_TARGET}
-use Rattle.page_cache.specs.AddressSpace.{AddressSpace, Completes, view, reclaiming}
+use Rattle.page_cache.specs.AddressSpace.{AddressSpace, view, reclaiming}
 use Rattle.page_cache.specs.Framed.{evicting, evicting_many, then_way}
 use Rattle.page_cache.proofs.Pages.{keeps-all, keeps-then}
-use Rattle.page_cache.proofs.Parts.{on-err}
-use Rattle.page_cache.proofs.Runs.{Alike, rests-all, rests-then, stops-as, stops-first}
-use Rattle.page_cache.proofs.Ways.{evicted-more, evicted-none, reclaimed}
+use Rattle.page_cache.proofs.Parts.{none-left, on-err}
+use Rattle.page_cache.proofs.Runs.{Alike, rests-all, rests-as, rests-then, stops-as, stops-first}
+use Rattle.page_cache.proofs.Ways.{evicted-more, reclaimed}
 use Rattle.page_cache.proofs.address_space.AddressSpace.shrink.Goals as goal
 
 pub loop-self-init : goal.loop-self-init
@@ -32,8 +32,9 @@ loop-self-preserved g c =
     let fewer = call.fewer in
     let one : suc left ≡ length c.loop-self.self.resident - RECLAIM_TARGET = omega (arith, counted, seen, more, fewer) in
     record {
-      rests = rests-then reclaiming evicting (evicting_many left) (evicting_many (length c.loop-self.self.resident - RECLAIM_TARGET)) old now next
-          (subst (λ n. Alike (evicting_many n) (then_way evicting (evicting_many left)) now) one (evicted-more now left)) c.loop-self.invariant.rests call.ok;
+      rests = rests-then reclaiming evicting (evicting_many left) old now next
+          (rests-as reclaiming (evicting_many (length c.loop-self.self.resident - RECLAIM_TARGET)) (then_way evicting (evicting_many left)) old now
+          (subst (λ n. Alike (evicting_many n) (then_way evicting (evicting_many left)) now) one (evicted-more now left)) c.loop-self.invariant.rests) call.ok;
       same = keeps-then old now next c.loop-self.invariant.same call.same;
       counted = call.counted;
       device = call.device ∙ c.loop-self.invariant.pages;
@@ -56,9 +57,6 @@ returns-in_err-evict_last-clause-stops g c =
 
 pub returns-clause-ok : goal.returns-clause-ok
 returns-clause-ok g c =
-    let now = view g.B.Block.pages g.B.Block.contents g.B.Block.counts c.loop-self.self c.loop-self.device in
-    let counted = c.len.ensures.len in
-    let seen = ap (λ (s : AddressSpace). length s.resident) c.self.view_is in
     let few = c.loop-self-test.false in
-    let none : 0 ≡ length c.loop-self.self.resident - RECLAIM_TARGET = omega (arith, counted, seen, few) in
-    c.loop-self.invariant.rests.completes now (subst (λ n. Completes (evicting_many n) now now) none (evicted-none now c.loop-self.invariant.counted))
+    c.loop-self.invariant.rests.completes _ (none-left _ (view g.B.Block.pages g.B.Block.contents g.B.Block.counts c.loop-self.self c.loop-self.device) c.len.result
+    c.self.view_is c.len.ensures.len (omega (arith, few)) c.loop-self.invariant.counted)

@@ -2,11 +2,11 @@ use Rattle.std.proofs.Common.{◌≡◌, ◌∙◌, ap, sym, subst, refl, true, 
 use Rattle.std.specs.List.{AllByRecursion}
 use Rattle.vfs_model.specs.Cache.{dirty_pages}
 use Rattle.page_cache.specs.AddressSpace.{AddressSpace, Completes, cache_in, view, writing_back}
-use Rattle.page_cache.specs.Framed.{Rests, cleaning, cleaning_each}
+use Rattle.page_cache.specs.Framed.{Rests, cleaning, cleaning_each, then_way}
 use Rattle.page_cache.specs.Resident.{holds_page}
 use Rattle.page_cache.specs.StoredSet.{pages_in}
 use Rattle.page_cache.proofs.Pages.{keeps-all, keeps-then}
-use Rattle.page_cache.proofs.Runs.{rests-all, rests-then}
+use Rattle.page_cache.proofs.Runs.{rests-all, rests-as, rests-then}
 use Rattle.page_cache.proofs.Turns.{dirty-held, still-held}
 use Rattle.page_cache.proofs.Ways.{cleaned-more, cleaned-none, written-back}
 use Rattle.page_cache.proofs.address_space.AddressSpace.write_back.Goals as goal
@@ -37,8 +37,9 @@ loop-page-preserved g c =
     let next = view g.B.Block.pages g.B.Block.contents g.B.Block.counts c.clean.new.self c.clean.new.device in
     let there = subst (AllByRecursion (λ p. holds_page c.loop-page.self.resident p ≡ true)) first c.loop-page.invariant.there in
     record {
-      rests = rests-then writing_back (cleaning page) (cleaning_each left) (cleaning_each (page ∷ left)) old now next (cleaned-more now page left)
-          (subst (λ pages. Rests writing_back old (cleaning_each pages) now) first c.loop-page.invariant.rests) call.ok;
+      rests = rests-then writing_back (cleaning page) (cleaning_each left) old now next
+          (rests-as writing_back (cleaning_each (page ∷ left)) (then_way (cleaning page) (cleaning_each left)) old now (cleaned-more now page left)
+          (subst (λ pages. Rests writing_back old (cleaning_each pages) now) first c.loop-page.invariant.rests)) call.ok;
       same = keeps-then old now next c.loop-page.invariant.same call.same;
       there = still-held page c.loop-page.self.resident c.clean.new.self.resident left call.resident there.1;
       counted = call.counted;

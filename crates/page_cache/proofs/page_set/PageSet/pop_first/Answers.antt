@@ -11,7 +11,8 @@ returns-then-word-ne0-clause-first c =
     let small : slice_index_or words c.from.result 0 < 2 ^ 64 = search rules in
     let count : length words ≡ 16 = search rules in
     ap pages_in (sym c.loop-place.invariant.0) ∙
-    first-read words c.loop-place.place c.from.result c.from-then-word-ne0.result c.from.ensures c.from-then-word-ne0.ensures count (omega arith) zeros some small
+    first-read words c.loop-place.place c.from.result c.from-then-word-ne0.result c.from.ensures c.from-then-word-ne0.ensures
+    (record { count = count; within = omega arith; zeros = zeros; some = some; small = small })
 
 pub returns-clause-none : goal.returns-clause-none
 returns-clause-none c =

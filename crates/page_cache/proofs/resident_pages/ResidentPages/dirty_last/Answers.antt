@@ -10,9 +10,10 @@ returns-in-Some c =
     let last = sym c.peek_lru.ensures ∙ ap (option_map deref_pair) c.in-Some.is in
     let page = c.in-Some.page.now in
     record {
-      last = ap (λ items. Some (page, items)) c.as_slice.ensures.value
+      some = ap (λ items. Some (page, items)) c.as_slice.ensures.value
           ∙ sym (ap (λ t. if t then Some (page, c.in-Some.last.now.bytes.items) else None) c.if-last.true)
           ∙ sym (dirty-at c.self.inside.pages.entries _ last) ∙ ap dirty_end c.self.view_is;
+      none = tt;
       whole = ap length c.as_slice.ensures.value ∙ whole-last c.self.inside.pages.entries _ last c.self.invariant.whole;
       sound = subst AreResident c.self.view_is (as-resident c.self.inside.pages c.self.invariant);
     }
@@ -22,15 +23,17 @@ returns-in_default c = elim c.in_default.branch [
   | in_default-via-in-Some+else-last w ↦
       let last = sym c.peek_lru.ensures ∙ ap (option_map deref_pair) w.in-Some.is in
       record {
-        last = sym (ap (λ t. if t then Some (w.in-Some.page.now, w.in-Some.last.now.bytes.items) else None) w.if-last.false)
+        none = sym (ap (λ t. if t then Some (w.in-Some.page.now, w.in-Some.last.now.bytes.items) else None) w.if-last.false)
             ∙ sym (dirty-at c.self.inside.pages.entries _ last) ∙ ap dirty_end c.self.view_is;
+        some = tt;
         whole = tt;
         sound = subst AreResident c.self.view_is (as-resident c.self.inside.pages c.self.invariant);
       }
   | in_default-via-in_default w ↦
       let last = sym c.peek_lru.ensures ∙ ap (option_map deref_pair) w.in_default.is in
       record {
-        last = sym (dirty-at c.self.inside.pages.entries _ last) ∙ ap dirty_end c.self.view_is;
+        none = sym (dirty-at c.self.inside.pages.entries _ last) ∙ ap dirty_end c.self.view_is;
+        some = tt;
         whole = tt;
         sound = subst AreResident c.self.view_is (as-resident c.self.inside.pages c.self.invariant);
       }

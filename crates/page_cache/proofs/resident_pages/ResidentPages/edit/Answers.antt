@@ -29,8 +29,8 @@ returns c = elim c.match-peek_mut.branch [
   | in-Some w ↦
       let some = sym c.peek_mut.ensures.value ∙ ap option_copied_mut w.in-Some.is in
       ap (λ (i : Inside). cached_pages i.pages.entries) w.self-inside-is
-      ∙ edited-one c.args.page c.args.at c.args.piece.now w.in-Some.held.now _ c.self.inside.pages.entries c.self.invariant.once some refl
-      (w.splice.ensures ∙ ap (λ at. spliced at c.args.piece.now w.in-Some.held.now.bytes.items) w.from.ensures)
+      ∙ edited-one c.args.page c.args.at c.args.piece.now w.in-Some.held.now _ c.self.inside.pages.entries c.self.invariant.once some
+      (refl, w.splice.ensures ∙ ap (λ at. spliced at c.args.piece.now w.in-Some.held.now.bytes.items) w.from.ensures)
       ∙ ap (λ (pages : List CachedPage). map (edited c.args.page c.args.at c.args.piece.now) pages) c.self.view_is
   | in_default w ↦
       let none = sym c.peek_mut.ensures.value ∙ ap option_copied_mut w.in_default.is in
