@@ -1,7 +1,7 @@
-"""What the page cache of a file on a cell has to do, by the rule of docs/STEPS.md, "The page cache", alone: no line of this was
-read from a program. With a script of operations it prints the case in which each of the first 40 calls of the device fails in
-turn; with `--cases FILE ..` it says where a case of crates/cache_cases has other calls or another answer. The operations are those
-of docs/DEVELOPING.md, "A new case"; their texts are plain letters here."""
+"""What the page cache of a file on a cell has to do, by the rule of docs/STEPS.md, "The page cache", alone: this takes no answer
+from a program. With a script of operations it prints the case in which each of the first 40 calls of the device fails in turn; with
+`--cases FILE ..` it says where a case of crates/cache_cases has other calls or another answer. The operations are those of
+docs/DEVELOPING.md, "A new case"; their texts are plain letters here."""
 import sys
 
 SIZE = 4096
