@@ -4,7 +4,7 @@ use Rattle.std.proofs.lemmas.Bool.Decides.{eqb_tells}
 use Rattle.std.proofs.lemmas.List.{drop-drop, drop-set-lt, get_or-drop, length-set, map-append, map_more, reverse-append, take_more_set}
 use Rattle.std.proofs.lemmas.List.Elements.{filter_map-append}
 use Rattle.std.proofs.lemmas.List.Folds.{list_any-append}
-use Rattle.std.specs.List.{filter_map, list_all, list_any}
+use Rattle.std.specs.List.{list_all, list_any}
 use Rattle.vfs_base.specs.Path.{Path}
 use Rattle.vfs_base.specs.declared.describe.CellNode.{CellNode}
 use Rattle.vfs_base.specs.declared.describe.CellNode.TheVariants.{Dir, File}
@@ -19,16 +19,6 @@ pub map-reversed : {X Y : Type 0} (f : X → Y) (xs : List X) → map f (reverse
 map-reversed f [] = refl
 map-reversed f (x ∷ xs) =
     ap (map f) (reverse-append (x ∷ []) xs) ∙ map-append f (reverse xs) (x ∷ []) ∙ ap (λ ys. ys ++ f x ∷ []) (map-reversed f xs) ∙ sym (reverse-append (f x ∷ []) (map f xs))
-
--- the cells of files, by nodes alone
-cells-of-values : (kept : Nodes) → filter_map node_cell (map (λ (entry : Path × CellNode). entry.1) kept) ≡ file_cells kept
-cells-of-values [] = refl
-cells-of-values (entry ∷ kept) = rw (cells-of-values kept) refl
-
-pub marks-of-values : (kept : Nodes) (values : List CellNode) (place : ℕ) → values ≡ map (λ (entry : Path × CellNode). entry.1) kept →
-    list_any (λ other. other == place) (filter_map node_cell values) ≡ has_file kept place
-marks-of-values kept values place e =
-    ap (λ nodes. list_any (λ other. other == place) (filter_map node_cell nodes)) e ∙ ap (list_any (λ other. other == place)) (cells-of-values kept)
 
 or-false : (a : Bool) → (a || false) ≡ a
 or-false true = refl
@@ -80,26 +70,25 @@ module _ {B : Type 0} where
       later false b h = absurd (cc)
 
   -- the marks of one more node
-  pub marked-more : (cells : List (Cell B)) (nodes : List CellNode) (node : CellNode) →
-      ((place : ℕ) → place < length cells → (cell_at cells place).has_file ≡ list_any (λ other. other == place) (filter_map node_cell nodes)) →
-      (place : ℕ) → place < length (with_mark_of cells node true) →
-      (cell_at (with_mark_of cells node true) place).has_file ≡ list_any (λ other. other == place) (filter_map node_cell (nodes ++ node ∷ []))
-  marked-more cells nodes node marks place l =
+  pub marked-more : (cells : List (Cell B)) (kept : Nodes) (path : Path) (node : CellNode) →
+      ((place : ℕ) → place < length cells → (cell_at cells place).has_file ≡ has_file kept place) →
+      (place : ℕ) → place < length (with_mark_of cells node true) → (cell_at (with_mark_of cells node true) place).has_file ≡ has_file (kept ++ (path, node) ∷ []) place
+  marked-more cells kept path node marks place l =
       by node l
-      ∙ sym (list_any-append (λ other. other == place) (filter_map node_cell nodes) (filter_map node_cell (node ∷ [])))
-      ∙ sym (ap (list_any (λ other. other == place)) (filter_map-append node_cell nodes (node ∷ [])))
+      ∙ sym (list_any-append (λ other. other == place) (file_cells kept) (file_cells ((path, node) ∷ [])))
+      ∙ sym (ap (list_any (λ other. other == place)) (filter_map-append (λ (entry : Path × CellNode). node_cell entry.1) kept ((path, node) ∷ [])))
     where
       by : (node : CellNode) → place < length (with_mark_of cells node true) →
-          (cell_at (with_mark_of cells node true) place).has_file ≡ (list_any (λ other. other == place) (filter_map node_cell nodes) || list_any (λ other. other == place) (filter_map node_cell (node ∷ [])))
-      by Dir l = marks place l ∙ sym (or-false (list_any (λ other. other == place) (filter_map node_cell nodes)))
+          (cell_at (with_mark_of cells node true) place).has_file ≡ (has_file kept place || has_file ((path, node) ∷ []) place)
+      by Dir l = marks place l ∙ sym (or-false (has_file kept place))
       by (File cell size stored) l = elim (eqb_tells cell place) [
         | inl same ↦
             ap (λ k. (cell_at (with_mark cells cell true) k).has_file) (sym same.1)
             ∙ mark_at-same cells cell true (subst (λ k. k < length cells) (sym same.1) (simp length-set at l))
-            ∙ sym (or-true (list_any (λ other. other == place) (filter_map node_cell nodes)) ((cell == place) || false) (ap (λ b. b || false) same.0))
+            ∙ sym (or-true (has_file kept place) ((cell == place) || false) (ap (λ b. b || false) same.0))
         | inr other ↦
             mark_at-other cells cell place true (λ e. other.1 (sym e)) ∙ marks place (simp length-set at l)
-            ∙ sym (ap (λ b. list_any (λ other. other == place) (filter_map node_cell nodes) || (b || false)) other.0 ∙ or-false (list_any (λ other. other == place) (filter_map node_cell nodes)))
+            ∙ sym (ap (λ b. has_file kept place || (b || false)) other.0 ∙ or-false (has_file kept place))
       ]
 
 -- what stands behind no item is all

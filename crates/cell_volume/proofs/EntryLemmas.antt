@@ -1,6 +1,5 @@
--- The entries of a map by path: what is found, taken away and put last.
-use Rattle.std.proofs.Common.{◌≡◌, ℕ, Bool, true, false, cond, not, ◌&&◌, T, Some, [], ◌∷◌, ◌++◌, fold, map, take, drop, length, ◌-◌, inl, inr, refl, sym, ap, subst, ◌∙◌, append_assoc}
-use Rattle.std.proofs.lemmas.List.{append-nil, take_rest}
+-- The entries of a map by path: what is found, taken away and written.
+use Rattle.std.proofs.Common.{◌≡◌, Bool, true, false, cond, not, ◌&&◌, T, Some, [], ◌∷◌, inl, inr, refl, sym, ap, subst, ◌∙◌}
 use Rattle.std.specs.BTreeMap.{is_at}
 use Rattle.std.specs.FinMap.Entries.{below_all, by_order, find as value_at, is_sorted, put}
 use Rattle.std.specs.Map.{lookup, remove_entry, set_value}
@@ -11,8 +10,7 @@ use Rattle.vfs_base.specs.Path.{Path, path_cmp}
 use Rattle.vfs_base.specs.PathLaws.{path_cmp_total, path_ties}
 use Rattle.vfs_model.proofs.Trees.{same_path-itself, same_path-other}
 use Rattle.vfs_model.specs.Namespace.{same_path}
-use Rattle.vfs_model.specs.Lookup.{is_prefix}
-use Rattle.node_maps.specs.NodeMap.{NodeMap, carried, put_entry, without}
+use Rattle.node_maps.specs.NodeMap.{NodeMap, without}
 use Rattle.node_maps.proofs.MovedNodes.{at-later}
 use Rattle.cell_volume.proofs.PathFronts.{same-or-other-path}
 
@@ -101,45 +99,3 @@ module _ {N : Type 0} where
           ap (λ o. cond (is_eq o) ((entry.0, node) ∷ tree) (entry ∷ set_value (is_at (path_cmp path)) tree node)) e
           ∙ either o e rest
           ∙ sym (ap (λ o. by_order o ((path, node) ∷ entry ∷ tree) ((entry.0, node) ∷ tree) (entry ∷ put path_cmp path node tree)) e)
-
-  front-below : (path : Path) (tree more : NodeMap N) → T (below_all path_cmp path (tree ++ more)) → T (below_all path_cmp path tree)
-  front-below path [] more h = tt
-  front-below path (entry ∷ tree) more h =
-      t-both (is_lt (path_cmp path entry.0)) (below_all path_cmp path tree) (t-first _ (below_all path_cmp path (tree ++ more)) h)
-      (front-below path tree more (t-second (is_lt (path_cmp path entry.0)) (below_all path_cmp path (tree ++ more)) h))
-
-  front-sorted : (tree more : NodeMap N) → T (is_sorted path_cmp (tree ++ more)) → T (is_sorted path_cmp tree)
-  front-sorted [] more h = tt
-  front-sorted (entry ∷ tree) more h =
-      t-both (below_all path_cmp entry.0 tree) (is_sorted path_cmp tree) (front-below entry.0 tree more (t-first _ (is_sorted path_cmp (tree ++ more)) h))
-      (front-sorted tree more (t-second (below_all path_cmp entry.0 (tree ++ more)) (is_sorted path_cmp (tree ++ more)) h))
-
-  -- an entry behind all others
-  pub put-last : (tree : NodeMap N) (entry : Path × N) → T (is_sorted path_cmp (tree ++ entry ∷ [])) → put_entry tree entry ≡ tree ++ entry ∷ []
-  put-last [] entry h = refl
-  put-last (first ∷ tree) entry h =
-      ap (λ o. by_order o ((entry.0, entry.1) ∷ first ∷ tree) ((first.0, entry.1) ∷ tree) (first ∷ put path_cmp entry.0 entry.1 tree)) (greater first entry.0 (last tree (t-first _ _ h)))
-      ∙ ap (λ rest. first ∷ rest) (put-last tree entry (t-second (below_all path_cmp first.0 (tree ++ entry ∷ [])) _ h))
-    where
-      last : (tree : NodeMap N) → T (below_all path_cmp first.0 (tree ++ entry ∷ [])) → T (is_lt (path_cmp first.0 entry.0))
-      last [] h = t-first (is_lt (path_cmp first.0 entry.0)) true h
-      last (x ∷ tree) h = last tree (t-second (is_lt (path_cmp first.0 x.0)) _ h)
-
-      greater : (first : Path × N) (path : Path) → T (is_lt (path_cmp first.0 path)) → path_cmp path first.0 ≡ Greater
-      greater first path h = path_cmp_total.antisymm path first.0 ∙ ap ordering_reverse (is-less (path_cmp first.0 path) h)
-
-  -- entries in order, put one after the other
-  pub puts-sorted : (before tree : NodeMap N) → T (is_sorted path_cmp (before ++ tree)) → fold put_entry before tree ≡ before ++ tree
-  puts-sorted before [] h = sym (append-nil before)
-  puts-sorted before (entry ∷ tree) h =
-      let split : before ++ (entry ∷ []) ++ tree ≡ before ++ entry ∷ tree = append_assoc before (entry ∷ []) tree in
-      ap (λ base. fold put_entry base tree) (put-last before entry (front-sorted (before ++ entry ∷ []) tree (subst (λ es. T (is_sorted path_cmp es)) (sym split) h)))
-      ∙ puts-sorted (before ++ entry ∷ []) tree (subst (λ es. T (is_sorted path_cmp es)) (sym split) h) ∙ split
-
-  -- a node that moves, put at its new path
-  pub carried-one : (old new path key names : Path) (node : N) (next : NodeMap N) (len : ℕ) → is_prefix old path ≡ true → names ≡ path → len ≡ length old →
-      key ≡ new ++ take (length names - len) (drop len names) → put path_cmp key node next ≡ fold put_entry next (carried old new ((path, node) ∷ []))
-  carried-one old new path key names node next len below same n is =
-      ap (λ k. put path_cmp k node next)
-      (is ∙ ap (λ rest. new ++ rest) (take_rest names len ∙ ap (drop len) same ∙ ap (λ k. drop k path) n))
-      ∙ sym (ap (λ b. fold put_entry next (map (λ (entry : Path × N). (new ++ drop (length old) entry.0, entry.1)) (cond b ((path, node) ∷ []) []))) below)

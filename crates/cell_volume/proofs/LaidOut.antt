@@ -9,7 +9,7 @@ use Rattle.vfs_base.specs.declared.describe.CellNode.TheVariants.{Dir, File}
 use Rattle.vfs_base.specs.declared.describe.Counts.{Counts}
 use Rattle.std.proofs.lemmas.List.Quantifiers.{position-Some}
 use Rattle.std.specs.FinMap.Entries.{find as value_at, is_sorted, put}
-use Rattle.vfs_base.specs.Path.{Path, path_cmp}
+use Rattle.vfs_base.specs.Path.{IsPath, Path, path_cmp}
 use Rattle.vfs_model.specs.Lookup.{is_below, is_prefix}
 use Rattle.node_maps.specs.IsFault.{AnswersBy}
 use Rattle.node_maps.specs.NodeMap.{link_refusal, moved, rename_refusal, without}
@@ -22,7 +22,7 @@ use Rattle.cell_volume.proofs.RecordFiles.{Nodes, file_at, file_of, has_file-at}
 use Rattle.cell_volume.proofs.RecordMoves.{found-both, moved-files-other, moved-files-own, moved-kept}
 use Rattle.cell_volume.proofs.RecordSteps.{IsKept, empty-kept, keep-files, keep-kept, may-link, not-true, put-files-other, put-files-own, put-kept, without-files-other, without-files-own, without-kept}
 use Rattle.cell_volume.specs.Cells.{IsLaidOut, MarksFiles, MarksNode, cell_at, is_spare_cell, new_cell, state_of, states_of, with_device, with_mark, with_mark_of, without_mark}
-use Rattle.cell_volume.specs.MountedVolume.{IsMounted, MountedVolume, are_home, cell_state, file_device, has_file, is_dir, is_file, least_spare, new_file, spare_cells, spare_count, with_content, with_found, with_kept}
+use Rattle.cell_volume.specs.MountedVolume.{ArePaths, IsMounted, MountedVolume, are_home, cell_state, file_device, has_file, is_dir, is_file, least_spare, new_file, spare_cells, spare_count, with_content, with_found, with_kept}
 use Rattle.cell_volume.specs.declared.cells.Cell.{Cell}
 
 module _ {B : Type 0} where
@@ -163,37 +163,37 @@ module _ {B : Type 0} where
           (without-files-own (length cells) kept path node there bare laid-kept)
 
       -- a node comes to the path
-      pub laid-link : (path : Path) (node : CellNode) → link_refusal is_dir kept path ≡ None →
+      pub laid-link : (path : Path) (node : CellNode) → link_refusal is_dir kept path ≡ None → IsPath path →
           ((cell : ℕ) → node_cell node ≡ Some cell → (cell < length cells) × (has_file kept cell ≡ false)) →
           IsLaidOut (view name (with_mark_of cells node true) (put path_cmp path node kept)) (with_mark_of cells node true) room memory
-      laid-link path node fits own =
+      laid-link path node fits names own =
           let may = may-link kept path fits in
           laid-node (put path_cmp path node kept) node true
-          (put-kept (length cells) kept path node may laid-kept own)
-          (put-files-other (length cells) kept path node may laid-kept own)
-          (put-files-own (length cells) kept path node may laid-kept own)
+          (put-kept (length cells) kept path node may names laid-kept own)
+          (put-files-other (length cells) kept path node may names laid-kept own)
+          (put-files-own (length cells) kept path node may names laid-kept own)
 
       -- a folder comes to the path, or is refused
-      pub laid-insert : (path : Path) (now : Nodes) (result : Result (Unit {0}) TreeFault) → OnOk result (now ≡ put path_cmp path Dir kept) →
+      pub laid-insert : (path : Path) (now : Nodes) (result : Result (Unit {0}) TreeFault) → IsPath path → OnOk result (now ≡ put path_cmp path Dir kept) →
           AnswersBy (link_refusal is_dir kept path) result → OnErr result (now ≡ kept) → IsLaidOut (view name cells now) cells room memory
-      laid-insert path now (Ok done) ok fault err =
+      laid-insert path now (Ok done) names ok fault err =
           let P : Nodes → Type 0 = λ now. IsLaidOut (view name cells now) cells room memory in
-          subst P (sym ok) (laid-link path Dir fault (λ cell e. absurd (cc)))
-      laid-insert path now (Err refusal) ok fault err =
+          subst P (sym ok) (laid-link path Dir fault names (λ cell e. absurd (cc)))
+      laid-insert path now (Err refusal) names ok fault err =
           let P : Nodes → Type 0 = λ now. IsLaidOut (view name cells now) cells room memory in
           subst P (sym err) is
 
       -- a node with all below it moves
       pub laid-rename : (old new : Path) → rename_refusal is_dir kept old new ≡ None → is_prefix old new ≡ false → is_prefix new old ≡ false →
-          list_any (λ entry. is_below new entry.0) kept ≡ false →
+          list_any (λ entry. is_below new entry.0) kept ≡ false → IsPath new →
           let node = unwrap_or (value_at path_cmp new kept) Dir in
           IsLaidOut (view name (with_mark_of cells node false) (moved old new kept)) (with_mark_of cells node false) room memory
-      laid-rename old new fits apart beside bare =
+      laid-rename old new fits apart beside bare names =
           let found = found-both kept old new fits in
           laid-node (moved old new kept) (unwrap_or (value_at path_cmp new kept) Dir) false
-          (moved-kept (length cells) kept old new laid-kept found apart beside bare)
-          (moved-files-other (length cells) kept old new laid-kept found apart beside bare)
-          (moved-files-own (length cells) kept old new laid-kept found apart beside bare)
+          (moved-kept (length cells) kept old new laid-kept found apart beside bare names)
+          (moved-files-other (length cells) kept old new laid-kept found apart beside bare names)
+          (moved-files-own (length cells) kept old new laid-kept found apart beside bare names)
 
       pub laid-replaced : (path : Path) → MarksNode cells (unwrap_or (value_at path_cmp path kept) Dir)
       laid-replaced path = by (value_at path_cmp path kept) refl
@@ -271,12 +271,12 @@ module _ {B : Type 0} where
 
   -- a volume that is mounted anew
   pub laid-new : (pages : B → ℕ) (contents : B → Option (List (List ℕ))) (counts : B → Counts) (name : List ℕ) (devices : List B) (cells : List (Cell B)) (kept : Nodes) →
-      IsVolume (record { name = name; cells = cell_states pages contents counts devices; kept = kept }) → T (is_sorted path_cmp kept) →
+      IsVolume (record { name = name; cells = cell_states pages contents counts devices; kept = kept }) → T (is_sorted path_cmp kept) → ArePaths kept →
       map (λ (cell : Cell B). cell.device) cells ≡ map (λ (cell : Cell B). cell.device) (map new_cell devices) → IsMounted (view pages contents counts name cells kept)
-  laid-new pages contents counts name devices cells kept is sorted e =
+  laid-new pages contents counts name devices cells kept is sorted paths e =
       let P : List (Option CellState) → Type 0 = λ states. IsMounted (record { name = name; cells = states; kept = kept }) in
       subst P (states-devices pages contents counts devices cells (new-devices devices ∙ sym e))
-      (mounted-volume (record { name = name; cells = cell_states pages contents counts devices; kept = kept }) sorted is)
+      (mounted-volume (record { name = name; cells = cell_states pages contents counts devices; kept = kept }) sorted paths is)
 
 pub if-some : {X : Type 0} (found : Option X) (P : Type 0) → P → IfSome found (λ _. P)
 if-some None P p = tt

@@ -1,3 +1,4 @@
+pub mod BelowRanges
 pub mod CellLemmas
 pub mod CellLoops
 pub mod ClosedNodes
@@ -5,6 +6,7 @@ pub mod EntryLemmas
 pub mod LaidOut
 pub mod MountedLemmas
 pub mod MovedClosed
+pub mod MovedRanges
 pub mod PathFronts
 pub mod RecordFiles
 pub mod RecordMoves

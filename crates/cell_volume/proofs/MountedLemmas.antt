@@ -14,7 +14,7 @@ use Rattle.vfs_outside.specs.Volume.{CellState, IsRecord, IsVolume, VolumeState,
 use Rattle.cell_volume.proofs.PathFronts.{below-or-past}
 use Rattle.cell_volume.proofs.RecordFiles.{Nodes, apart-record, closed-record, record-closed}
 use Rattle.cell_volume.proofs.RecordSteps.{IsKept}
-use Rattle.cell_volume.specs.MountedVolume.{IsMounted, MountedVolume, mounted, with_cell, with_record}
+use Rattle.cell_volume.specs.MountedVolume.{ArePaths, IsMounted, MountedVolume, mounted, with_cell, with_record}
 
 -- a record in the order of a map is in order
 pub ordered-entries : {X : Type 0} (entries : List (Path × X)) → IsStrictlySortedBy path_cmp (keys_of entries) → T (is_sorted path_cmp entries)
@@ -35,6 +35,7 @@ pub kept-mounted : (volume : MountedVolume) → IsMounted volume → IsKept (len
 kept-mounted volume is = record {
   closed = closed-record (length volume.cells) volume.kept is.ordered is.recorded;
   files = apart-record (length volume.cells) volume.kept is.recorded;
+  paths = is.paths;
 }
 
 -- another record
@@ -44,6 +45,7 @@ mounted-record volume kept is new = record {
   pages = is.pages;
   ordered = new.closed.sorted;
   recorded = record-closed (length volume.cells) kept new.closed new.files;
+  paths = new.paths;
 }
 
 -- a device goes or comes home
@@ -60,6 +62,7 @@ mounted-cell volume cell device is h = record {
   ];
   ordered = is.ordered;
   recorded = subst (λ cells. IsRecord cells volume.kept) (sym (length-set volume.cells cell device)) is.recorded;
+  paths = is.paths;
 }
 
 b-first : (a b : Bool) → (a && b) ≡ true → a ≡ true
@@ -85,8 +88,8 @@ home-pages [] h = refl
 home-pages (cell ∷ cells) h = b-both (is_page_count cell.pages) (list_all is_page_count (map (λ cell. cell.pages) cells)) (h zero) (home-pages cells (λ at. h (suc at)))
 
 -- a volume as it is handed in is one that may be mounted
-pub mounted-volume : (volume : VolumeState) → T (is_sorted path_cmp volume.kept) → IsVolume volume → IsMounted (mounted volume)
-mounted-volume volume sorted is = record {
+pub mounted-volume : (volume : VolumeState) → T (is_sorted path_cmp volume.kept) → ArePaths volume.kept → IsVolume volume → IsMounted (mounted volume)
+mounted-volume volume sorted paths is = record {
   number =
       let few = b-first (nat_le (length (map (λ (cell : CellState). cell.pages) volume.cells)) VOLUME_CELLS_MAX) (list_all is_page_count (map (λ (cell : CellState). cell.pages) volume.cells)) is.cells in
       let len = length-map volume.cells (λ (cell : CellState). cell.pages) in
@@ -95,6 +98,7 @@ mounted-volume volume sorted is = record {
   pages = pages-home volume.cells (b-second (nat_le (length (map (λ (cell : CellState). cell.pages) volume.cells)) VOLUME_CELLS_MAX) (list_all is_page_count (map (λ (cell : CellState). cell.pages) volume.cells)) is.cells);
   ordered = sorted;
   recorded = subst (λ cells. IsRecord cells volume.kept) (sym (length-map volume.cells (λ (cell : CellState). Some cell))) is.kept;
+  paths = paths;
 }
 
 -- and the other way round

@@ -3,7 +3,7 @@ use Rattle.std.proofs.Common.{◌≡◌, ◌≢◌, ℕ, Bool, true, false, ◌&
 use Rattle.std.proofs.lemmas.List.{append-nil}
 use Rattle.std.specs.FinMap.Entries.{find as value_at}
 use Rattle.std.specs.List.{list_any}
-use Rattle.vfs_base.specs.Path.{Path, path_cmp}
+use Rattle.vfs_base.specs.Path.{IsPath, Path, path_cmp}
 use Rattle.vfs_base.specs.declared.describe.CellNode.{CellNode}
 use Rattle.vfs_base.specs.declared.describe.CellNode.TheVariants.{Dir}
 use Rattle.vfs_model.proofs.MovedLaws.{prefix-append}
@@ -14,6 +14,7 @@ use Rattle.vfs_outside.specs.Volume.{node_cell}
 use Rattle.node_maps.specs.NodeMap.{is_folder, moved, rename_refusal}
 use Rattle.node_maps.specs.declared.tree_fault.TreeFault.TheVariants as fault
 use Rattle.node_maps.proofs.MovedNodes.{moved-at, moved-beside, none-under}
+use Rattle.cell_volume.proofs.BelowRanges.{path-append, path-front}
 use Rattle.cell_volume.proofs.MovedClosed.{MayMove, Source, moved-closed, one-source, source}
 use Rattle.cell_volume.proofs.PathFronts.{true-or-false}
 use Rattle.cell_volume.proofs.RecordFiles.{Nodes, file-node, file_at, file_of, has_file-at}
@@ -38,7 +39,8 @@ prefix-itself : (path : Path) → is_prefix path path ≡ true
 prefix-itself path = subst (λ p. is_prefix path p ≡ true) (append-nil path) (prefix-append path [])
 
 module _ (cells : ℕ) (kept : Nodes) (old new : Path) (is : IsKept cells kept) (found : Found kept old new)
-    (apart : is_prefix old new ≡ false) (beside : is_prefix new old ≡ false) (bare : list_any (λ entry. is_below new entry.0) kept ≡ false) where
+    (apart : is_prefix old new ≡ false) (beside : is_prefix new old ≡ false) (bare : list_any (λ entry. is_below new entry.0) kept ≡ false)
+    (names : IsPath new) where
   old-named : old ≢ []
   old-named h = let yes : is_prefix old new ≡ true = ap (λ p. is_prefix p new) h in absurd (cc)
 
@@ -71,6 +73,17 @@ module _ (cells : ℕ) (kept : Nodes) (old new : Path) (is : IsKept cells kept) 
       let from = source is_dir old new kept may q node.node node.is in
       record { node = node.node; from = from; has = ap (option_and_then node_cell) from.there ∙ node.on }
 
+  -- each node stands at a path of names: that of the new place and what lay behind the old one, or its own
+  path-at : (q : Path) (found : Option CellNode) → value_at path_cmp q (moved old new kept) ≡ found → is_some found ≡ true → IsPath q
+  path-at q None e h = absurd (cc)
+  path-at q (Some node) e h =
+      let from = source is_dir old new kept may q node e in
+      let stood = is.paths from.path (ap is_some from.there) in
+      elim from.is [
+        | inl m ↦ subst (λ p. IsPath p) (sym m.1) (path-append new m.0 names (path-front old m.0 (subst (λ p. IsPath p) m.2 stood)))
+        | inr m ↦ subst (λ p. IsPath p) m.2 stood
+      ]
+
   pub moved-kept : IsKept cells (moved old new kept)
   moved-kept = record {
     closed = moved-closed is_dir old new kept may;
@@ -81,6 +94,7 @@ module _ (cells : ℕ) (kept : Nodes) (old new : Path) (is : IsKept cells kept) 
           let t = stood q cell k in
           one-source is_dir old new kept may p q s.node t.node s.from t.from (is.files.alone s.from.path t.from.path cell s.has t.has);
     };
+    paths = λ q h. path-at q (value_at path_cmp q (moved old new kept)) refl h;
   }
 
   -- a file that is not replaced has its cell

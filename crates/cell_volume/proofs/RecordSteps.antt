@@ -1,10 +1,10 @@
 -- What each change of a record keeps: it stays a tree whose files have cells of their own, and which cells files have.
-use Rattle.std.proofs.Common.{◌≡◌, ◌≢◌, ℕ, ◌+◌, ◌-◌, ◌<◌, Bool, true, false, cond, not, ◌||◌, nat_le, Option, Some, None, is_some, option_and_then, List, [], ◌∷◌, ◌++◌, length, take, if◌then◌else◌, inl, inr, refl, sym, ap, ◌∙◌, arith, length-append}
+use Rattle.std.proofs.Common.{◌≡◌, ◌≢◌, ℕ, ◌+◌, ◌-◌, ◌<◌, Bool, true, false, cond, not, ◌||◌, nat_le, Option, Some, None, is_some, option_and_then, List, [], ◌∷◌, ◌++◌, length, take, if◌then◌else◌, inl, inr, refl, sym, ap, subst, ◌∙◌, arith, length-append}
 use Rattle.std.proofs.lemmas.Bool.Decides.{nat_tests}
 use Rattle.std.proofs.lemmas.List.{take_at}
 use Rattle.std.specs.FinMap.Entries.{find as value_at, is_sorted-put, length-put, put}
 use Rattle.std.specs.List.{list_any}
-use Rattle.vfs_base.specs.Path.{Path, path_cmp}
+use Rattle.vfs_base.specs.Path.{IsPath, Path, path_cmp}
 use Rattle.vfs_base.specs.PathLaws.{path_cmp_total}
 use Rattle.vfs_base.specs.declared.describe.CellNode.{CellNode}
 use Rattle.vfs_base.specs.declared.describe.CellNode.TheVariants.{File}
@@ -21,12 +21,13 @@ use Rattle.node_maps.proofs.MovedNodes.{none-under}
 use Rattle.cell_volume.proofs.ClosedNodes.{found_dir, put-closed, without-closed}
 use Rattle.cell_volume.proofs.PathFronts.{named, same-or-other-path}
 use Rattle.cell_volume.proofs.RecordFiles.{FilesApart, Nodes, file_at, file_of, has_file-at}
-use Rattle.cell_volume.specs.MountedVolume.{has_file, is_dir}
+use Rattle.cell_volume.specs.MountedVolume.{ArePaths, has_file, is_dir}
 
 -- A record that a mounted volume may have.
 pub record IsKept (cells : ℕ) (kept : Nodes) : Type 0 where
   pub closed : IsClosedTree (found_dir is_dir) kept
   pub files : FilesApart cells kept
+  pub paths : ArePaths kept
 
 -- two tests are the same where each holds with the other
 pub same-test : (a b : Bool) → (a ≡ true → b ≡ true) → (b ≡ true → a ≡ true) → a ≡ b
@@ -80,7 +81,7 @@ may-link kept path h = by (is_folder is_dir kept (parent_of path)) (is_there kep
     by true false false a b c k = record { parent = a; absent = absent path b; named = not-root path b; room = grind (arith, nat_tests) }
 
 -- the cells of files after a node came to an absent path
-module _ (cells : ℕ) (kept : Nodes) (path : Path) (node : CellNode) (may : MayLink kept path) (is : IsKept cells kept)
+module _ (cells : ℕ) (kept : Nodes) (path : Path) (node : CellNode) (may : MayLink kept path) (names : IsPath path) (is : IsKept cells kept)
     (own : (cell : ℕ) → node_cell node ≡ Some cell → (cell < cells) × (has_file kept cell ≡ false)) where
   pub put-here : file_at (put path_cmp path node kept) path ≡ node_cell node
   put-here = ap (option_and_then node_cell) (at-put-here path node kept)
@@ -112,7 +113,14 @@ module _ (cells : ℕ) (kept : Nodes) (path : Path) (node : CellNode) (may : May
   pub put-kept : IsKept cells (put path_cmp path node kept)
   put-kept =
       let front = fronted path may.named in
-      record { closed = put-closed is_dir kept path (parent_of path) front.name node is.closed may.absent front.is may.parent may.room; files = put-apart }
+      record {
+        closed = put-closed is_dir kept path (parent_of path) front.name node is.closed may.absent front.is may.parent may.room;
+        files = put-apart;
+        paths = λ q h. elim (same-or-other-path q path) [
+          | inl same ↦ subst (λ p. IsPath p) (sym same) names
+          | inr other ↦ is.paths q (ap is_some (sym (at-put-other path q node kept other)) ∙ h)
+        ];
+      }
 
   -- a cell that the node doesn't have
   pub put-files-other : (cell : ℕ) → (node_cell node ≡ Some cell → ⊥) → has_file (put path_cmp path node kept) cell ≡ has_file kept cell
@@ -164,6 +172,12 @@ module _ (cells : ℕ) (kept : Nodes) (path : Path) (node : CellNode) (there : v
       within = λ q cell h. is.files.within q cell (stays-other q cell h).1;
       alone = λ p q cell h k. is.files.alone p q cell (stays-other p cell h).1 (stays-other q cell k).1;
     };
+    paths = λ q h. elim (same-or-other-path q path) [
+      | inl same ↦
+          let none : is_some (value_at path_cmp q (without path kept)) ≡ false = ap (λ p. is_some (value_at path_cmp p (without path kept))) same ∙ ap is_some (at-without-here path kept) in
+          absurd (cc)
+      | inr other ↦ is.paths q (ap is_some (sym (at-without-other path q kept other)) ∙ h)
+    ];
   }
 
   -- a cell that the node doesn't have
@@ -232,6 +246,7 @@ module _ (cells : ℕ) (kept : Nodes) (path : Path) (cell size : ℕ) (stored : 
       within = λ q at h. is.files.within q at (sym (kept-at q) ∙ h);
       alone = λ p q at h k. is.files.alone p q at (sym (kept-at p) ∙ h) (sym (kept-at q) ∙ k);
     };
+    paths = λ q h. is.paths q (sym (some-at q) ∙ h);
   }
 
   pub keep-files : (at : ℕ) → has_file (put path_cmp path (File cell size stored) kept) at ≡ has_file kept at
@@ -245,4 +260,5 @@ pub empty-kept : (cells : ℕ) → IsKept cells []
 empty-kept cells = record {
   closed = record { sorted = tt; rootless = refl; parents = λ front name h. absurd (cc); bounded = omega arith };
   files = record { within = λ path cell h. absurd (cc); alone = λ path other cell h k. absurd (cc) };
+  paths = λ path h. absurd (cc);
 }

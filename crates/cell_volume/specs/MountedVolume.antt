@@ -2,7 +2,7 @@
 use Rattle.std.specs.Prelude.{◌≡◌, ℕ, ◌==◌, ◌≤◌, Bool, true, false, T, not, ◌&&◌, Option, Some, None, List, [], ◌∷◌, length, map, count_by, replicate, is_some, slice_index_or, slice_set, if◌then◌else◌, filter, option_and_then, IfSome}
 use Rattle.std.specs.FinMap.Entries.{find as value_at, is_sorted, put}
 use Rattle.std.specs.List.{list_all, list_any, position, range_with_len}
-use Rattle.vfs_base.specs.Path.{Path, path_cmp}
+use Rattle.vfs_base.specs.Path.{IsPath, Path, path_cmp}
 use Rattle.vfs_base.specs.declared.describe.CellNode.{CellNode}
 use Rattle.vfs_base.specs.declared.describe.CellNode.TheVariants.{Dir, File}
 use Rattle.vfs_base.specs.declared.describe.Counts.{Counts}
@@ -101,9 +101,14 @@ is_file kept path = is_some (option_and_then node_cell (value_at path_cmp path k
 abbrev pub entries_at : List (Path × CellNode) → Path → List CellEntry
 entries_at kept path = map (λ entry. record { name = last_name entry.0; node = entry.1 }) (filter (λ entry. is_entry_of path entry.0) kept)
 
+-- each node stands at a path of names
+abbrev pub ArePaths : List (Path × CellNode) → Type 0
+ArePaths kept = (path : Path) → is_some (value_at path_cmp path kept) ≡ true → IsPath path
+
 -- what holds of a mounted volume at any time
 pub record IsMounted (volume : MountedVolume) : Type 0 where
   pub number : length volume.cells ≤ VOLUME_CELLS_MAX
   pub pages : (cell : ℕ) → IfSome (device_at volume cell) (λ state. is_page_count state.pages ≡ true)
   pub ordered : T (is_sorted path_cmp volume.kept)
   pub recorded : IsRecord (length volume.cells) volume.kept
+  pub paths : ArePaths volume.kept

@@ -4,6 +4,7 @@ ghost use Rattle.std.specs.Prelude.{◌≡◌, [], ◌∷◌, ◌++◌, ◌<◌,
 ghost use Rattle.std.specs.FinMap.Entries.{is_sorted};
 ghost use Rattle.std.specs.List.{list_all, position};
 ghost use Rattle.vfs_base.specs.Path.{path_cmp};
+ghost use Rattle.cell_volume.specs.MountedVolume.{ArePaths};
 ghost use Rattle.cell_volume.specs.Cells.{MarksFiles, cell_at, is_spare_cell, new_cell, with_device, with_mark, with_mark_of, without_mark};
 
 use vfs_base::{CellNode, Record};
@@ -68,8 +69,11 @@ pub(crate) fn mark_files<B>(cells: &mut Vec<Cell<B>>, nodes: &Record)
     ensures devices { map (λ cell. cell.device) cells.new.items ≡ map (λ cell. cell.device) cells.old.items }
     ensures marks { MarksFiles cells.new.items nodes.now.entries }
     ensures ordered { T (is_sorted path_cmp nodes.now.entries) }
+    ensures paths { ArePaths nodes.now.entries }
 {
-    for node in nodes.values() {
+    for (path, node) in nodes.iter() {
+        // What a path promises of its names is known only from a call of its own.
+        let _names = path.as_names();
         mark_node(cells, *node);
     }
 }

@@ -5,9 +5,11 @@
 //! It makes no call of a device but for its number of pages, and knows nothing of mounts and rows.
 #![tactic(auto)]
 
+mod below;
 mod cell_entry;
 mod cell_table;
 mod cells;
+mod moves;
 mod nodes;
 mod volume;
 

@@ -11,10 +11,12 @@ ghost use Rattle.node_maps.specs.IsFault.{AnswersBy};
 ghost use Rattle.node_maps.specs.NodeMap.{is_folder, link_refusal, moved, rename_refusal, unlink_refusal, without};
 ghost use Rattle.cell_volume.specs.MountedVolume.{IsMounted, are_home, cell_state, device_at, entries_at, file_device, has_file, is_dir, is_file, least_spare, mounted, new_file, node_in, spare_count, with_cell, with_kept, with_record};
 
+use crate::below::entries_in;
 use crate::cell_entry::CellEntry;
 use crate::cell_table::CellTable;
 use crate::cells::{are_home, has_file, least_spare, make_cells, mark_files, take_devices};
-use crate::nodes::{entries_in, is_folder, keep, link, node_at, rename, unlink};
+use crate::moves::rename;
+use crate::nodes::{is_folder, keep, link, node_at, unlink};
 use node_maps::TreeFault;
 use std::alloc::Global;
 use std::marker::Model;
@@ -231,7 +233,7 @@ impl<B: Block> Volume<B> {
 
     /// Moves the node at old, with all below it, to new, and answers the node that stood there. Neither
     /// path is a front of the other, and nothing stands below new. The cell of a replaced file is spare
-    /// where its device is home.
+    /// where its device is home. It takes the time and the memory of the nodes that move.
     ///
     /// # Errors
     /// `NotFound` exactly where nothing stands at old or the parent of new is no folder; or `NoMemory`.
@@ -253,7 +255,8 @@ impl<B: Block> Volume<B> {
         Ok(replaced)
     }
 
-    /// What is in the folder at the path, in byte order of the names.
+    /// What is in the folder at the path, in byte order of the names. It takes the time of the nodes
+    /// below the folder.
     ///
     /// # Errors
     /// `NotFound` exactly where no folder stands at the path; or `NoMemory`.

@@ -1,12 +1,13 @@
-use Rattle.std.proofs.Common.{◌≡◌, ◌<◌, ℕ, ◌==◌, length, map}
-use Rattle.std.specs.List.{filter_map, list_any}
-use Rattle.std.specs.Map.Iter.{deref}
-use Rattle.vfs_outside.specs.Volume.{node_cell}
+use Rattle.std.proofs.Common.{◌≡◌, ◌<◌, ℕ, length, map}
+use Rattle.std.specs.Map.Iter.{deref_pair}
+use Rattle.vfs_base.specs.Path.{AllAre, IsPath}
 use Rattle.cell_volume.specs.Cells.{cell_at}
+use Rattle.cell_volume.specs.MountedVolume.{has_file}
 use Rattle.cell_volume.proofs.cells.mark_files.Given as goal
 
-abbrev pub invariant-loop-node : goal.invariant-loop-node
-invariant-loop-node g l = record {
+abbrev pub invariant-loop-path : goal.invariant-loop-path
+invariant-loop-path g l = record {
   devices : map (λ cell. cell.device) l.cells.items ≡ map (λ cell. cell.device) l.initial.cells.items;
-  marks : (place : ℕ) → place < length l.cells.items → (cell_at l.cells.items place).has_file ≡ list_any (λ other. other == place) (filter_map node_cell (map deref l.yielded));
+  marks : (place : ℕ) → place < length l.cells.items → (cell_at l.cells.items place).has_file ≡ has_file (map deref_pair l.yielded) place;
+  paths : AllAre (λ entry. IsPath entry.0) (map deref_pair l.yielded);
 }

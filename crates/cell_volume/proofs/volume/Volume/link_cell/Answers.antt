@@ -11,7 +11,7 @@ use Rattle.cell_volume.proofs.volume.Volume.link_cell.Goals as goal
 pub invariant_of-self-2 : goal.invariant_of-self-2
 invariant_of-self-2 g c =
     rw (c.mark.ensures, c.in_default.ensures.ok)
-    (laid-link g.B.Block.pages g.B.Block.contents g.B.Block.counts c.self.inside.name c.self.inside.cells.cells.items c.self.inside.nodes.entries c.self.inside.room.items _ c.self.invariant c.args.path.now (new_file c.args.cell) c.in_default.ensures.fault
+    (laid-link g.B.Block.pages g.B.Block.contents g.B.Block.counts c.self.inside.name c.self.inside.cells.cells.items c.self.inside.nodes.entries c.self.inside.room.items _ c.self.invariant c.args.path.now (new_file c.args.cell) c.in_default.ensures.fault c.in_default.ensures.path
     (own-cell (length c.self.inside.cells.cells.items) c.self.inside.nodes.entries c.args.cell
     (subst (λ n. c.args.cell < n) (length-map c.self.inside.cells.cells.items (state_of g.B.Block.pages g.B.Block.contents g.B.Block.counts)) (rw (← c.self.view_is) at c.requires.within))
     (rw (← c.self.view_is) at c.requires.unused)))

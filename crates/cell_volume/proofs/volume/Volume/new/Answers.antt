@@ -11,7 +11,7 @@ pub invariant_of-result : goal.invariant_of-result
 invariant_of-result g c =
     let devices = c.mark_files.ensures.devices ∙ ap (map (λ cell. cell.device)) c.make_cells.ensures.cells in
     rw c.new.ensures (record {
-      mounted = laid-new g.B.Block.pages g.B.Block.contents g.B.Block.counts c.part.inside.name c.part.inside.cells.items c.mark_files.new.cells.items c.part.inside.kept.entries c.part.invariant c.mark_files.ensures.ordered devices;
+      mounted = laid-new g.B.Block.pages g.B.Block.contents g.B.Block.counts c.part.inside.name c.part.inside.cells.items c.mark_files.new.cells.items c.part.inside.kept.entries c.part.invariant c.mark_files.ensures.ordered c.mark_files.ensures.paths devices;
       marks = c.mark_files.ensures.marks;
       empty = c.make_cells.ensures.devices;
       reserved = omega (arith, same-number c.part.inside.cells.items c.mark_files.new.cells.items devices, c.make_cells.ensures.room, c.make_cells.ensures.capacity, c.part.inside.cells.ok);
