@@ -1,6 +1,7 @@
 pub mod Belows
 pub mod Calls
 pub mod Depths
+pub mod Entering
 pub mod FoundChanges
 pub mod Listings
 pub mod NodeChanges

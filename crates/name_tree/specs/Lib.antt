@@ -1,3 +1,4 @@
 pub mod Changes
+pub mod Entered
 pub mod Layout
 pub mod Listed
