@@ -3,6 +3,7 @@ pub mod Calls
 pub mod Depths
 pub mod Entering
 pub mod FoundChanges
+pub mod Gathers
 pub mod Listings
 pub mod NodeChanges
 pub mod NodeSlots

@@ -13,12 +13,15 @@ ghost use Rattle.name_tree.specs.Listed.{has_below, listed};
 use crate::links::{
     enter_along, insert_below, relink_below, remove_below, replace_below, set_value,
 };
-use crate::node::{Node, child_of, has_entries, known_slot, named_values, slot_of, split_name};
+use crate::listing::{gather, listed};
+use crate::node::{
+    Node, ROOT, child_of, has_entries, known_slot, named_values, slot_of, split_name,
+};
 use slab::Slab;
 use std::alloc::Global;
 use std::collections::BTreeMap;
 use std::marker::Model;
-use vfs_base::{List, Name, NoMemory};
+use vfs_base::{List, Name, NoMemory, Path};
 
 /// Values at paths, one of them at the root.
 ///
@@ -143,6 +146,18 @@ impl<T: Copy + Drop> NameTree<T> {
         ensures err { OnErr result (EntersFront self.old self.new path.now value) }
     {
         enter_along(&mut self.nodes, self.alloc, path, value)
+    }
+}
+
+impl<T: Copy + Drop> NameTree<T> {
+    /// All nodes with their paths, in the order of paths.
+    pub fn entries(&self) -> Result<List<(Path, T)>, NoMemory>
+        ensures { IfOk result (λ list. list ≡ self.now) }
+    {
+        let mut path = Path::root(self.alloc);
+        let mut found = BTreeMap::new(self.alloc);
+        gather(&self.nodes, ROOT, &mut path, &mut found)?;
+        listed(self.alloc, found)
     }
 }
 
