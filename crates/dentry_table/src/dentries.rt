@@ -6,11 +6,11 @@ ghost use Rattle.vfs_base.specs.Path.{path_cmp};
 ghost use Rattle.vfs_model.specs.Lookup.{is_prefix};
 ghost use Rattle.vfs_model.specs.NormalPath.{parent_of};
 ghost use Rattle.name_tree.specs.Listed.{has_below};
-ghost use Rattle.dentry_table.specs.DentryTable.{count_at, Lowers, Raises, SameCounts, Takes};
+ghost use Rattle.dentry_table.specs.DentryTable.{count_at, held, Lowers, Raises, SameCounts, Takes};
 ghost use Rattle.dentry_table.specs.Tidy.{IsTidy, IsTidyBut};
 
 use name_tree::NameTree;
-use vfs_base::{Name, NoMemory};
+use vfs_base::{List, Name, NoMemory, Path};
 
 // How many holders the path has.
 pub fn count_in(counts: &NameTree<u32>, path: &[Name]) -> u32
@@ -109,6 +109,13 @@ pub fn prune(counts: &mut NameTree<u32>, path: &[Name], room: &[Name])
     }
     counts.remove(path);
     prune(counts, parent(path), room);
+}
+
+// Of the dentries those that have holders.
+pub fn keep_held(list: &mut List<(Path, u32)>)
+    ensures { list.new ≡ held list.old }
+{
+    list.retain(|entry| entry.1 != 0);
 }
 
 // Whether the second path begins with the first.

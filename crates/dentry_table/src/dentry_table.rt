@@ -1,13 +1,13 @@
 //! The numbers of holders by path.
 
 ghost use Rattle.std.specs.Prelude.{◌≡◌, ◌≢◌, ◌<◌, ◌-◌, ◌^◌, ◌↔◌, IsTrue, [], length, IfOk, OnOk, OnErr};
-ghost use Rattle.dentry_table.specs.DentryTable.{count_at, HoldsBelow, HoldsNothing, Lowers, Raises, SameCounts, Takes};
+ghost use Rattle.dentry_table.specs.DentryTable.{count_at, held, HoldsBelow, HoldsNothing, Lowers, Raises, SameCounts, Takes};
 
-use crate::dentries::{clear, count_in, lower, raise};
+use crate::dentries::{clear, count_in, keep_held, lower, raise};
 use name_tree::NameTree;
 use std::alloc::Global;
 use std::marker::Model;
-use vfs_base::{Name, NoMemory};
+use vfs_base::{List, Name, NoMemory, Path};
 
 /// How many holders each path has.
 ///
@@ -71,6 +71,15 @@ impl DentryTable {
         ensures taken { Takes self.old self.new path.now }
     {
         clear(&mut self.counts, path, &[])
+    }
+
+    /// The paths that have holders, each with their number, in the order of paths.
+    pub fn list(&self) -> Result<List<(Path, u32)>, NoMemory>
+        ensures { IfOk result (λ list. list ≡ held self.now) }
+    {
+        let mut list = self.counts.entries()?;
+        keep_held(&mut list);
+        Ok(list)
     }
 
     /// Whether a path below this one has a holder. Nothing below it is walked over.
