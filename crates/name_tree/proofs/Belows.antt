@@ -25,7 +25,7 @@ rest-behind [] n h = absurd (omega arith)
 rest-behind (next ∷ more) n h = (next, more, refl)
 
 -- a path below another goes on from it
-below-splits : (path q : Path) → is_below path q ≡ true → (next : List ℕ) × (more : Path) × (q ≡ path ++ next ∷ more)
+pub below-splits : (path q : Path) → is_below path q ≡ true → (next : List ℕ) × (more : Path) × (q ≡ path ++ next ∷ more)
 below-splits path q h =
     let parts = and_parts (is_prefix path q) (nat_lt (length path) (length q)) h in
     let split = prefix-splits path q parts.0 in
@@ -35,7 +35,7 @@ below-splits path q h =
     (rest.0, rest.1, split ∙ ap (λ r. path ++ r) rest.2)
 
 module _ {N : Type 0} where
-  none-below : (path : Path) (tree : NodeMap N) → ((next : List ℕ) (more : Path) → value_at path_cmp (path ++ next ∷ more) tree ≡ None) → has_below path tree ≡ false
+  pub none-below : (path : Path) (tree : NodeMap N) → ((next : List ℕ) (more : Path) → value_at path_cmp (path ++ next ∷ more) tree ≡ None) → has_below path tree ≡ false
   none-below path [] h = refl
   none-below path (entry ∷ tree) h =
       ap (λ b. b || has_below path tree) (first (is_below path entry.0) refl)
@@ -51,7 +51,7 @@ module _ {N : Type 0} where
       first true e = let split = below-splits path entry.0 e in absurd (not-here (path ++ split.0 ∷ split.1) (sym split.2) (h split.0 split.1))
       first false e = e
 
-  some-below : (path : Path) (tree : NodeMap N) (next : List ℕ) (more : Path) → value_at path_cmp (path ++ next ∷ more) tree ≢ None → has_below path tree ≡ true
+  pub some-below : (path : Path) (tree : NodeMap N) (next : List ℕ) (more : Path) → value_at path_cmp (path ++ next ∷ more) tree ≢ None → has_below path tree ≡ true
   some-below path tree next more h = elim (has_below path tree) as (λ b. has_below path tree ≡ b → b ≡ true) [
     | true ↦ λ e. refl
     | false ↦ λ e. absurd (h (none-under path tree e next more))

@@ -32,6 +32,14 @@ node-there : {N : Type 0} (o : Option (Node N)) → value_of o ≢ None → IsSo
 node-there None h = absurd (h refl)
 node-there (Some node) h = refl
 
+one-there : {N : Type 0} (o : Option N) → IsSome o → one_if_there o ≡ 1
+one-there None h = absurd (cc)
+one-there (Some x) h = refl
+
+some-from : {X : Type 0} (o : Option X) → o ≢ None → IsSome o
+some-from None h = absurd (h refl)
+some-from (Some x) h = refl
+
 module _ {N : Type 0} {old : List (Option (Node N))} {count : ℕ} {tree : NodeMap N} (s : IsSound old count) (view : tree_of old ≡ tree) where
   -- a path leads to a slot where a node stands
   pub walk-some : (path : Path) → IsSome (value_at path_cmp path tree) → IsSome (walk (child_in old) 0 path)
@@ -46,6 +54,10 @@ module _ {N : Type 0} {old : List (Option (Node N))} {count : ℕ} {tree : NodeM
   -- what is found at the slot of a path stands at the path
   pub at-walk : (path : Path) (to : Option ℕ) → walk (child_in old) 0 path ≡ to → value_at path_cmp path tree ≡ option_and_then (value_in old) to
   at-walk path to w = ap (value_at path_cmp path) (sym view) ∙ tree-at old s.tree path ∙ ap (option_and_then (value_in old)) w
+
+  -- a node stands at the root
+  pub root-there : IsSome (value_at path_cmp [] tree)
+  root-there = some-from (value_at path_cmp [] tree) (λ none. s.tree.root (sym (at-walk [] (Some 0) refl) ∙ none))
 
   module _ {path : Path} (front : Path) (name : List ℕ) (split : path ≡ front ++ name ∷ []) where
     -- the last step to a node
@@ -131,6 +143,17 @@ module _ {N : Type 0} {old : List (Option (Node N))} {count : ℕ} {tree : NodeM
         tree_of-relinked s front front' w w' (entry-to front name split at slot w v) parted (below-none front' name' split' bare) r
         ∙ ap (λ p. moved p (front' ++ name' ∷ []) (tree_of old)) (sym split) ∙ ap (λ p. moved path p (tree_of old)) (sym split') ∙ ap (moved path path') view
     relink-ok new (Err e) r = tt
+
+    pub replace-ok : {new : List (Option (Node N))} → Relinks old new at name to name' slot → tree_of new ≡ moved path path' tree
+    replace-ok r =
+        tree_of-relinked s front front' w w' (entry-to front name split at slot w v) parted (below-none front' name' split' bare) r
+        ∙ ap (λ p. moved p (front' ++ name' ∷ []) (tree_of old)) (sym split) ∙ ap (λ p. moved path p (tree_of old)) (sym split') ∙ ap (moved path path') view
+
+    pub replace-sound : {new : List (Option (Node N))} {left : ℕ} → Relinks old new at name to name' slot → IsSome (value_at path_cmp path' tree) → left + 1 ≡ count → IsSound new left
+    replace-sound {left} r there fewer =
+        let here : IsSome (value_at path_cmp (front' ++ name' ∷ []) (tree_of old)) = ap is_some (ap (λ p. value_at path_cmp p (tree_of old)) (sym split') ∙ ap (value_at path_cmp path') view) ∙ there in
+        sound-relinked s front front' w w' (entry-to front name split at slot w v) parted (below-none front' name' split' bare) r
+        (ap (λ n. left + n) (one-there _ here) ∙ fewer)
 
     -- the value that was at the new path
     pub replaced-is : value_at path_cmp path' tree ≡ option_and_then (value_in old) (child_in old to name')

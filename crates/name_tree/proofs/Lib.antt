@@ -1,7 +1,9 @@
 pub mod Belows
 pub mod Calls
 pub mod Depths
+pub mod Entering
 pub mod FoundChanges
+pub mod Gathers
 pub mod Listings
 pub mod NodeChanges
 pub mod NodeSlots

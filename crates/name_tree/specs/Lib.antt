@@ -1,3 +1,5 @@
 pub mod Changes
+pub mod Entered
+pub mod Gathered
 pub mod Layout
 pub mod Listed

@@ -6,6 +6,7 @@
 #![tactic(auto)]
 
 mod links;
+mod listing;
 mod name_tree;
 mod node;
 

@@ -1,25 +1,31 @@
 //! The tree of names.
 
-ghost use Rattle.std.specs.Prelude.{◌≡◌, ◌≢◌, false, length, [], ◌∷◌, Some, None, IsSome, IfOk, OnOk, OnErr};
+ghost use Rattle.std.specs.Prelude.{◌≡◌, ◌≢◌, false, length, [], ◌∷◌, Some, None, IsSome, IfNone, IfOk, OnOk, OnErr};
 ghost use Rattle.std.specs.FinMap.Entries.{find as value_at, put};
 ghost use Rattle.std.specs.Option.{option_copied};
 ghost use Rattle.vfs_base.specs.Path.{path_cmp};
 ghost use Rattle.vfs_model.specs.Lookup.{is_prefix};
 ghost use Rattle.vfs_model.specs.NormalPath.{parent_of};
 ghost use Rattle.node_maps.specs.NodeMap.{moved, without};
+ghost use Rattle.name_tree.specs.Entered.{EntersFront, entered};
 ghost use Rattle.name_tree.specs.Listed.{has_below, listed};
 
-use crate::links::{insert_below, relink_below, remove_below, set_value};
-use crate::node::{Node, child_of, has_entries, known_slot, named_values, slot_of, split_name};
+use crate::links::{
+    enter_along, insert_below, relink_below, remove_below, replace_below, set_value,
+};
+use crate::listing::{gather, listed};
+use crate::node::{
+    Node, ROOT, child_of, has_entries, known_slot, named_values, slot_of, split_name,
+};
 use slab::Slab;
 use std::alloc::Global;
 use std::collections::BTreeMap;
 use std::marker::Model;
-use vfs_base::{List, Name, NoMemory};
+use vfs_base::{List, Name, NoMemory, Path};
 
 /// Values at paths, one of them at the root.
 ///
-/// A call that wants memory and gets none leaves the tree as it was.
+/// A call that wants memory and gets none leaves the tree as it was, but for `enter`.
 #[derive(Drop)]
 pub struct NameTree<T> {
     alloc: Global,
@@ -109,12 +115,59 @@ impl<T: Drop> NameTree<T> {
         let slot = known_slot(&self.nodes, old);
         relink_below(&mut self.nodes, at, name, to, other, slot)
     }
+
+    /// Moves the node at the old path, with all below it, onto the one that stands at the new path,
+    /// and answers the value of that one. No memory is wanted, and it takes no longer where much
+    /// lies below.
+    pub fn replace(&mut self, old: &[Name], new: &[Name]) -> T
+        requires there { IsSome (value_at path_cmp old.now self.old) }
+        requires target { IsSome (value_at path_cmp new.now self.old) }
+        requires outside { is_prefix old.now new.now ≡ false }
+        requires above { is_prefix new.now old.now ≡ false }
+        requires bare { has_below new.now self.old ≡ false }
+        ensures value { value_at path_cmp new.now self.old ≡ Some result }
+        ensures tree { self.new ≡ moved old.now new.now self.old }
+    {
+        let (front, name) = split_name(old);
+        let (target, other) = split_name(new);
+        let at = known_slot(&self.nodes, front);
+        let to = known_slot(&self.nodes, target);
+        let slot = known_slot(&self.nodes, old);
+        let gone = known_slot(&self.nodes, new);
+        replace_below(&mut self.nodes, at, name, to, other, slot, gone)
+    }
+}
+
+impl<T: Copy + Drop> NameTree<T> {
+    /// A node stands at the path, and at each one above it; those that come have this value. Without
+    /// memory for all of them, some of the first ones may have come.
+    pub fn enter(&mut self, path: &[Name], value: T) -> Result<(), NoMemory>
+        ensures ok { OnOk result (self.new ≡ entered (length path.now) path.now value self.old) }
+        ensures err { OnErr result (EntersFront self.old self.new path.now value) }
+    {
+        enter_along(&mut self.nodes, self.alloc, path, value)
+    }
+}
+
+impl<T: Copy + Drop> NameTree<T> {
+    /// All nodes with their paths, in the order of paths.
+    pub fn entries(&self) -> Result<List<(Path, T)>, NoMemory>
+        ensures { IfOk result (λ list. list ≡ self.now) }
+    {
+        let mut path = Path::root(self.alloc);
+        let mut found = BTreeMap::new(self.alloc);
+        gather(&self.nodes, ROOT, &mut path, &mut found)?;
+        listed(self.alloc, found)
+    }
 }
 
 impl<T> NameTree<T> {
-    /// The value at the path, or `None` where no node stands there.
+    /// The value at the path, or `None` where no node stands there. A node stands at the root, and
+    /// below a path only where one stands at it.
     pub fn find(&self, path: &[Name]) -> Option<&T>
-        ensures { option_copied result ≡ value_at path_cmp path.now self.now }
+        ensures value { option_copied result ≡ value_at path_cmp path.now self.now }
+        ensures root { IsSome (value_at path_cmp [] self.now) }
+        ensures above { IfNone result (has_below path.now self.now ≡ false) }
     {
         let slot = slot_of(&self.nodes, path)?;
         let node = self.nodes.get(slot)?;

@@ -1,0 +1,4 @@
+pub mod Belows
+pub mod Counts
+pub mod Entering
+pub mod Tidiness

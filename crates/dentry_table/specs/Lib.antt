@@ -1,0 +1,2 @@
+pub mod DentryTable
+pub mod Tidy
