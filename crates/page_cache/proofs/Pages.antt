@@ -188,7 +188,7 @@ left-same a c told last settled h = record {
         by true f = ap (below a told) (sym (same-number c.page q f)) ∙ sym settled
         by false f = refl
 
-absent-found : (q : ℕ) (xs : List CachedPage) → holds_page xs q ≡ false → find (is_cached q) xs ≡ None
+pub absent-found : (q : ℕ) (xs : List CachedPage) → holds_page xs q ≡ false → find (is_cached q) xs ≡ None
 absent-found q [] e = refl
 absent-found q (x ∷ xs) e = (elim (is_cached q x) as (λ t. is_cached q x ≡ t → cond (is_cached q x) (Some x) (find (is_cached q) xs) ≡ None) [
   | true ↦ λ f. absurd (let g = rw f at e in cc)

@@ -9,7 +9,7 @@ use Rattle.std.specs.Ordering.{match_ordering, nat_cmp}
 use Rattle.std.specs.declared.cmp.Ordering.TheVariants.{Less, Equal, Greater}
 use Rattle.vfs_base.specs.declared.limits.TheConstants.{PAGE_SIZE}
 use Rattle.vfs_model.specs.BlockDevice.{BlockDevice}
-use Rattle.vfs_model.specs.Cache.{dirty_pages, is_page, move_to_front}
+use Rattle.vfs_model.specs.Cache.{dirty_pages, is_page, is_resident, is_stored, move_to_front}
 use Rattle.vfs_model.specs.PageList.{CachedPage, cached_bytes, slot_of}
 use Rattle.vfs_model.specs.declared.cache.CacheState.{CacheState}
 use Rattle.vfs_model.specs.declared.cache.Resident.{Resident}
@@ -20,7 +20,7 @@ use Rattle.page_cache.proofs.Found.{alike, differs, find-edited, same-number, cl
 use Rattle.page_cache.proofs.Pages.{Clean, below, bytes_at, front-same}
 use Rattle.page_cache.proofs.Parts.{at, found-held}
 use Rattle.page_cache.proofs.Runs.{completes-as, completes-change}
-use Rattle.page_cache.proofs.Ways.{touched-front}
+use Rattle.page_cache.proofs.Ways.{resident-held, touched-front}
 
 within-filter : (n : ℕ) (p : CachedPage → Bool) (xs : List CachedPage) → AllByRecursion (λ c. c.page < n) xs → AllByRecursion (λ c. c.page < n) (filter p xs)
 within-filter n p [] all = tt
@@ -180,7 +180,7 @@ cut-found q keep xs bytes bytes' same h = elim (cases_lt q keep) [
     is-high : (a b : ℕ) → b ≤ a → nat_lt a b ≡ false
     is-high a b h = grind (arith, nat_tests)
 
-stored-cut : (q keep : ℕ) (pages : List ℕ) → q < keep → list_any (λ other. other == q) (filter (λ page. nat_lt page keep) pages) ≡ list_any (λ other. other == q) pages
+pub stored-cut : (q keep : ℕ) (pages : List ℕ) → q < keep → list_any (λ other. other == q) (filter (λ page. nat_lt page keep) pages) ≡ list_any (λ other. other == q) pages
 stored-cut q keep [] low = refl
 stored-cut q keep (page ∷ pages) low =
     (elim (page == q) as (λ t. (page == q) ≡ t →
@@ -251,3 +251,16 @@ pub still-held : (page : ℕ) (resident after : List CachedPage) (pages : List �
 still-held page resident after [] e h = tt
 still-held page resident after (p ∷ pages) e h =
     (ap (λ xs. holds_page xs p) e ∙ held-cleaned page p resident ∙ h.0, still-held page resident after pages e h.1)
+
+-- a page that is in memory is there
+pub present-held : (a b : AddressSpace) (page : ℕ) (held : Bool) → a ≡ b → held ≡ holds_page a.resident page → held ≡ true → held ≡ (is_resident (cache_in b) page || is_stored (cache_in b) page)
+present-held a b page held same is there =
+    subst (λ s. held ≡ (is_resident (cache_in s) page || is_stored (cache_in s) page)) same
+    (there ∙ sym (ap (λ t. t || is_stored (cache_in a) page) (resident-held page a.resident ∙ sym is ∙ there)))
+
+-- and another one where it is stored
+pub present-stored : (a b : AddressSpace) (page : ℕ) (held stored : Bool) → a ≡ b → held ≡ holds_page a.resident page → held ≡ false → stored ≡ is_stored (cache_in a) page →
+    stored ≡ (is_resident (cache_in b) page || is_stored (cache_in b) page)
+present-stored a b page held stored same is away on =
+    subst (λ s. stored ≡ (is_resident (cache_in s) page || is_stored (cache_in s) page)) same
+    (on ∙ sym (ap (λ t. t || is_stored (cache_in a) page) (resident-held page a.resident ∙ sym is ∙ away)))

@@ -186,7 +186,7 @@ evicted m = record {
 abbrev pub in_front : ℕ → CacheState → CacheState
 in_front page cache = record cache { resident = record { page = page; is_dirty = false } ∷ cache.resident }
 
-resident-held : (page : ℕ) (xs : List CachedPage) → list_any (is_page page) (map slot_of xs) ≡ holds_page xs page
+pub resident-held : (page : ℕ) (xs : List CachedPage) → list_any (is_page page) (map slot_of xs) ≡ holds_page xs page
 resident-held page [] = refl
 resident-held page (x ∷ xs) = ap (λ t. x.page == page || t) (resident-held page xs)
 

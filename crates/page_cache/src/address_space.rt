@@ -1,8 +1,9 @@
-ghost use Rattle.std.specs.Prelude.{◌≡◌, ◌<◌, ◌+◌, ◌-◌, ◌≤◌, ℕ, true, false, List, [], length, map, filter, take, drop, nat_lt, replicate, slice_set, OnOk, OnErr, IfOk, IfErr, IfSome, IsOk};
+ghost use Rattle.std.specs.Prelude.{◌≡◌, ◌<◌, ◌+◌, ◌-◌, ◌≤◌, ◌||◌, ℕ, true, false, List, [], length, map, filter, take, drop, nat_lt, replicate, slice_set, OnOk, OnErr, IfOk, IfErr, IfSome, IsOk};
 ghost use Rattle.vfs_base.specs.declared.limits.TheConstants.{CELL_PAGES_MAX, PAGE_SIZE, RESIDENT_PAGES};
+ghost use Rattle.vfs_model.specs.Cache.{is_resident, is_stored};
 ghost use Rattle.vfs_model.specs.PageList.{CachedPage, device_bytes};
 ghost use Rattle.page_cache.specs.StoredSet.{pages_in};
-ghost use Rattle.page_cache.specs.AddressSpace.{Completes, IsCurrent, KeepsPages, Stops, StopsAt, file_pages, view, page_of, reclaiming, space_of, touching, writing_back};
+ghost use Rattle.page_cache.specs.AddressSpace.{Completes, IsCurrent, KeepsPages, Stops, StopsAt, cache_in, file_pages, view, page_of, reclaiming, space_of, touching, writing_back};
 ghost use Rattle.page_cache.specs.Framed.{AreCounted, SettlesEnd, cleaning, evicting, reading, seen, writing_end};
 ghost use Rattle.page_cache.specs.Resident.{bytes_in, cleaned, edited, holds_page, spliced};
 ghost use Rattle.page_cache.specs.declared.cache_fault.CacheFault.TheVariants as fault;
@@ -174,6 +175,15 @@ impl AddressSpace {
     {
         self.resident.cut(keep);
         self.stored.cut(keep);
+    }
+
+    /// Whether the page is in memory or on the device; one that is neither is zeros. The cell has the
+    /// page.
+    pub fn is_present(&self, page: u16) -> bool
+        requires { page < self.now.pages }
+        ensures { result ≡ (is_resident (cache_in self.now) page || is_stored (cache_in self.now) page) }
+    {
+        self.resident.contains(page) || self.stored.contains(page)
     }
 
     /// The stored pages: bit i says that page i lies on the device.

@@ -59,6 +59,13 @@ impl ResidentPages {
         self.pages.len()
     }
 
+    /// Whether the page is in memory.
+    pub(crate) fn contains(&self, page: u16) -> bool
+        ensures { result ≡ holds_page self.now page }
+    {
+        self.pages.contains(&page)
+    }
+
     /// Puts the page in front, where it is in memory, and answers whether it is.
     pub(crate) fn promote(&mut self, page: u16) -> bool
         ensures there { result ≡ holds_page self.old page }
