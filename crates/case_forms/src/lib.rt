@@ -1,6 +1,6 @@
 //! The forms of case files: sections, the escapes of their lines, and steps and replies as texts.
 //!
-//! Nothing is promised but safety: it serves the programs of cases, which compare a case with what they make of it.
+//! Nothing is promised but safety: it serves `dfs_tests` alone, which compares a case with what it makes of it.
 //! docs/DEVELOPING.md tells the forms. It knows no world, command or program.
 #![tactic(auto)]
 
