@@ -26,7 +26,6 @@ pub fn numbered(alloc: Global, folder: &str, at: u32) -> Result<String, NoMemory
 }
 
 /// One folder `d` further down.
-pub fn go_down(text: &mut String) -> Result<(), NoMemory> {
-    text.push_str("/d")?;
-    Ok(())
+pub fn go_down(alloc: Global, path: &mut Path) -> Result<(), NoMemory> {
+    push_part(alloc, path, b"d")
 }

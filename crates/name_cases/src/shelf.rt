@@ -15,7 +15,7 @@ pub fn make(alloc: Global, tree: &mut NodeTree, text: &str) -> Result<(), TreeFa
     tree.insert_dir(path.as_names())
 }
 
-/// Moves a node, unless one path leads over the other or something stands below the new one.
+/// The same by texts.
 pub fn move_node(
     alloc: Global,
     tree: &mut NodeTree,
@@ -27,7 +27,8 @@ pub fn move_node(
     move_apart(tree, old.as_names(), new.as_names())
 }
 
-fn move_apart(tree: &mut NodeTree, old: &[Name], new: &[Name]) -> Result<bool, TreeFault> {
+/// Moves a node, unless one path leads over the other or something stands below the new one.
+pub fn move_apart(tree: &mut NodeTree, old: &[Name], new: &[Name]) -> Result<bool, TreeFault> {
     if is_prefix(old, new) || is_prefix(new, old) || tree.has_below(new) {
         return Ok(false);
     }
@@ -35,17 +36,23 @@ fn move_apart(tree: &mut NodeTree, old: &[Name], new: &[Name]) -> Result<bool, T
     Ok(true)
 }
 
+/// One folder more at the top of a chain of folders `d`: all others move below it.
+pub fn put_on_top(alloc: Global, tree: &mut NodeTree) -> Result<(), TreeFault> {
+    let first = path_at(alloc, "/d")?;
+    let top = path_at(alloc, "/top")?;
+    let inner = path_at(alloc, "/top/d")?;
+    tree.insert_dir(top.as_names())?;
+    if tree.find(first.as_names()).is_some() {
+        let _moved = move_apart(tree, first.as_names(), inner.as_names())?;
+    }
+    let _moved = move_apart(tree, top.as_names(), first.as_names())?;
+    Ok(())
+}
+
 /// Whether a node stands at the path.
 pub fn is_there(alloc: Global, tree: &NodeTree, text: &str) -> Result<bool, NoMemory> {
     let path = path_at(alloc, text)?;
     Ok(matches!(tree.find(path.as_names()), Some(NodeKind::Dir)))
-}
-
-/// How many entries the folder shows.
-pub fn shown(alloc: Global, tree: &NodeTree, text: &str) -> Result<usize, TreeFault> {
-    let path = path_at(alloc, text)?;
-    let entries = tree.list(path.as_names())?;
-    Ok(entries.len())
 }
 
 // Whether the second path begins with the first.
