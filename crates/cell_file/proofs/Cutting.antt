@@ -190,7 +190,7 @@ full-take zero xs h = tt
 full-take (suc n) [] h = tt
 full-take (suc n) (x ∷ xs) h = (h.0, full-take n xs h.1)
 
-full-zeros : (n : ℕ) → AreFull (replicate n (replicate PAGE_SIZE 0))
+pub full-zeros : (n : ℕ) → AreFull (replicate n (replicate PAGE_SIZE 0))
 full-zeros zero = tt
 full-zeros (suc n) = (length-replicate {A = ℕ} PAGE_SIZE 0, full-zeros n)
 
@@ -198,7 +198,7 @@ flat-append : (xs ys : List (List ℕ)) → concat (xs ++ ys) ≡ concat xs ++ c
 flat-append [] ys = refl
 flat-append (x ∷ xs) ys = ap (λ zs. x ++ zs) (flat-append xs ys) ∙ sym (append_assoc x (concat xs) (concat ys))
 
-flat-zeros : (n : ℕ) → concat (replicate n (replicate PAGE_SIZE 0)) ≡ replicate (PAGE_SIZE * n) 0
+pub flat-zeros : (n : ℕ) → concat (replicate n (replicate PAGE_SIZE 0)) ≡ replicate (PAGE_SIZE * n) 0
 flat-zeros zero = refl
 flat-zeros (suc n) = ap (λ xs. replicate PAGE_SIZE 0 ++ xs) (flat-zeros n) ∙ replicate-append-replicate PAGE_SIZE (PAGE_SIZE * n) 0
     ∙ ap (λ k. replicate k 0) (let e : PAGE_SIZE + PAGE_SIZE * n ≡ PAGE_SIZE * suc n = omega arith in e)

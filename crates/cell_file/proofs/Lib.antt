@@ -6,3 +6,4 @@ pub mod Told
 pub mod SizedBytes
 pub mod Cutting
 pub mod Files
+pub mod Empty

@@ -36,7 +36,7 @@ behind-itself calls = ([], sym (append-nil calls))
 behind-then : (a b c : List DeviceCall) → IsBehind a b → IsBehind b c → IsBehind a c
 behind-then a b c h k = (h.0 ++ k.0, k.1 ∙ ap (λ calls. calls ++ k.0) h.1 ∙ append_assoc a h.0 k.0)
 
-grown-pages : (clear : CacheRun → ℕ → CacheRun) → Grows clear → (pages : List ℕ) (run : CacheRun) → IsBehind run.calls (fold clear run pages).calls
+pub grown-pages : (clear : CacheRun → ℕ → CacheRun) → Grows clear → (pages : List ℕ) (run : CacheRun) → IsBehind run.calls (fold clear run pages).calls
 grown-pages clear grows [] run = behind-itself run.calls
 grown-pages clear grows (page ∷ pages) run =
     behind-then run.calls (clear run page).calls (fold clear (clear run page) pages).calls (grows run page) (grown-pages clear grows pages (clear run page))

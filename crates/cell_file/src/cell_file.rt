@@ -1,7 +1,9 @@
-ghost use Rattle.std.specs.Prelude.{◌≡◌, ◌<◌, ◌≤◌, ◌+◌, ◌^◌, true, false, length, take, drop, option_map, IfSome};
+ghost use Rattle.std.specs.Prelude.{◌≡◌, ◌<◌, ◌≤◌, ◌+◌, ◌^◌, true, false, [], length, take, drop, option_map, IfSome};
+ghost use Rattle.vfs_base.specs.declared.limits.TheConstants.{CELL_PAGES_MAX};
 ghost use Rattle.vfs_model.specs.FileStep.{written_at};
 ghost use Rattle.vfs_model.specs.Leaving.{is_starved};
 ghost use Rattle.page_cache.specs.AddressSpace.{reclaiming, writing_back};
+ghost use Rattle.page_cache.specs.Framed.{AreCounted};
 ghost use Rattle.cell_file.specs.CellFile.{IsCellFile, ReadsFile, capacity, cut_under, is_within, moved_under, seen, size_behind, size_under, told_bytes};
 ghost use Rattle.cell_file.specs.Moves.{Runs, at_once, editing_pages, reading_pages, truncating};
 
@@ -10,7 +12,7 @@ use crate::transfer::{
 };
 use page_cache::AddressSpace;
 use std::marker::Model;
-use vfs_base::{Mark, PAGE_SIZE};
+use vfs_base::{Counts, Mark, PAGE_SIZE};
 use vfs_outside::Block;
 
 /// A file on a cell: its bytes lie in pages in memory and on the cell's block device.
@@ -44,6 +46,21 @@ impl<B: Block> CellFile<B> {
             space,
             device,
             size,
+        }
+    }
+
+    /// A file of no byte, on a cell of which no page is stored or in memory.
+    pub fn empty(space: AddressSpace, device: B) -> CellFile<B>
+        requires device { B.pages device ≡ space.pages }
+        requires few { space.pages ≤ CELL_PAGES_MAX }
+        requires fresh { (space.resident ≡ []) × (space.stored ≡ []) }
+        ensures { result ≡ seen B.pages B.contents B.counts space device 0 }
+    {
+        let _pages = device.pages();
+        CellFile {
+            space,
+            device,
+            size: 0,
         }
     }
 
@@ -145,16 +162,17 @@ impl<B: Block> CellFile<B> {
         PAGE_SIZE * u64::from(self.device.pages())
     }
 
-    /// How many calls of the device failed so far, counted up to 2^64 - 1.
-    pub fn faults(&self) -> u64
-        ensures { result ≡ self.now.state.device.counts.faults }
+    /// How often the device was called so far.
+    pub fn counts(&self) -> Counts
+        ensures counts { result ≡ self.now.state.device.counts }
+        ensures counted { AreCounted self.now.state.device.counts }
     {
-        self.device.counts().faults
+        self.device.counts()
     }
 }
 
-// How many bytes of so many were moved, where a transfer ended with this mark.
-fn moved_under(mark: Mark, count: u64) -> u64
+/// How many bytes of so many were moved, where a transfer ended with this mark.
+pub fn moved_under(mark: Mark, count: u64) -> u64
     ensures { result ≡ moved_under mark count }
 {
     match mark {

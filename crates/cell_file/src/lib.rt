@@ -9,4 +9,4 @@
 mod cell_file;
 mod transfer;
 
-pub use cell_file::CellFile;
+pub use cell_file::{CellFile, moved_under};

@@ -2,4 +2,3 @@ pub mod EntryLemmas
 pub mod MovingLemmas
 pub mod PlaceLemmas
 pub mod StepLemmas
-pub mod WritingLemmas

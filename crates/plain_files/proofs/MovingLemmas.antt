@@ -6,7 +6,7 @@ use Rattle.vfs_base.specs.declared.step.Step.{Step}
 use Rattle.vfs_base.specs.declared.step.Step.TheVariants as step
 use Rattle.vfs_model.specs.FileStep.{absent_refusals, bytes_count, bytes_refusals, file_refusals, is_of_generation, moved_count, step_file}
 use Rattle.vfs_model.specs.declared.world.FileState.TheVariants as file
-use Rattle.plain_files.specs.Moving.{moved_bytes}
+use Rattle.file_steps.specs.Moving.{moved_bytes}
 
 -- a file that lacks the generation that a step names moves nothing
 absent-count : (capacity size count : ℕ) (asked : Step) →

@@ -11,7 +11,6 @@ mod moving;
 mod refusal;
 mod row;
 mod step;
-mod writing;
 
 pub use contents::origin_content;
 pub use homes::{bind_file, empty_cells, free_file};

@@ -5,7 +5,8 @@ ghost use Rattle.vfs_model.specs.FileMoves.{file_step, fits_file, is_before_end,
 ghost use Rattle.vfs_model.specs.FileStep.{file_refusals};
 
 use crate::moving::{move_file, moved_count};
-use crate::refusal::{file_refusals, is_cell};
+use crate::refusal::file_refusals;
+use file_steps::is_cell;
 use std::alloc::Global;
 use vfs_base::{Errno, Mark, NoMemory, Reply, Step};
 use vfs_model::FileState;
