@@ -16,7 +16,7 @@ use Rattle.name_tree.specs.Layout.{IsSound, child_in, entries_in, name_cmp, tree
 use Rattle.name_tree.specs.Listed.{has_below}
 use Rattle.name_tree.specs.declared.node.Node.{Node}
 
-and_parts : (a b : Bool) → (a && b) ≡ true → (a ≡ true) × (b ≡ true)
+pub and_parts : (a b : Bool) → (a && b) ≡ true → (a ≡ true) × (b ≡ true)
 and_parts true b h = (refl, h)
 and_parts false b h = absurd (cc)
 
@@ -58,7 +58,7 @@ module _ {N : Type 0} where
   ] refl
 
   module _ {nodes : List (Option (Node N))} {count : ℕ} {tree : NodeMap N} (s : IsSound nodes count) (view : tree_of nodes ≡ tree) (path : Path) where
-    after : (next : List ℕ) (more : Path) (o : Option ℕ) → walk (child_in nodes) 0 path ≡ o →
+    pub after : (next : List ℕ) (more : Path) (o : Option ℕ) → walk (child_in nodes) 0 path ≡ o →
         value_at path_cmp (path ++ next ∷ more) tree ≡ option_and_then (value_in nodes) (option_and_then (λ b. walk (child_in nodes) b (next ∷ more)) o)
     after next more o w =
         ap (value_at path_cmp (path ++ next ∷ more)) (sym view) ∙ tree-at nodes s.tree (path ++ next ∷ more)

@@ -1,5 +1,5 @@
 -- What a call requires of the slots, and what it leaves, where it knows the values by path.
-use Rattle.std.proofs.Common.{◌≡◌, ◌≢◌, ℕ, ◌+◌, false, not, T, inl, inr, Option, Some, None, IsSome, is_some, List, [], ◌∷◌, ◌++◌, option_and_then, OnOk, OnErr, IfOk, Result, Ok, Err, get_or, if◌then◌else◌, refl, sym, ap, subst, ◌∙◌}
+use Rattle.std.proofs.Common.{◌≡◌, ◌≢◌, ℕ, ◌+◌, Bool, true, false, not, T, inl, inr, Option, Some, None, IsSome, is_some, List, [], ◌∷◌, ◌++◌, option_and_then, OnOk, OnErr, IfOk, Result, Ok, Err, get_or, if◌then◌else◌, refl, sym, ap, subst, ◌∙◌}
 use Rattle.std.specs.FinMap.Entries.{find as value_at, is_sorted, is_sorted-where_key, put, same_entries}
 use Rattle.std.specs.List.Sorted.{IsStrictlySortedBy}
 use Rattle.std.specs.Map.{keys_of}
@@ -54,6 +54,14 @@ module _ {N : Type 0} {old : List (Option (Node N))} {count : ℕ} {tree : NodeM
   -- what is found at the slot of a path stands at the path
   pub at-walk : (path : Path) (to : Option ℕ) → walk (child_in old) 0 path ≡ to → value_at path_cmp path tree ≡ option_and_then (value_in old) to
   at-walk path to w = ap (value_at path_cmp path) (sym view) ∙ tree-at old s.tree path ∙ ap (option_and_then (value_in old)) w
+
+  -- the nodes stand in the order of paths
+  pub ordered : is_sorted path_cmp tree ≡ true
+  ordered = ap (is_sorted path_cmp) (sym view) ∙ told (is_sorted path_cmp (tree_of old)) (tree-sorted old)
+    where
+      told : (b : Bool) → T b → b ≡ true
+      told true t = refl
+      told false t = absurd t
 
   -- a node stands at the root
   pub root-there : IsSome (value_at path_cmp [] tree)

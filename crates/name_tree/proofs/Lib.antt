@@ -1,4 +1,5 @@
 pub mod Belows
+pub mod Besides
 pub mod Calls
 pub mod Depths
 pub mod Entering

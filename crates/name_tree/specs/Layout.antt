@@ -1,8 +1,10 @@
 -- How a `NameTree` lays out its nodes. No public clause cites this module.
-use Rattle.std.specs.Prelude.{◌≡◌, ◌≢◌, ℕ, zero, suc, Option, Some, None, List, [], ◌∷◌, length, map, fold, option_and_then, flat_map, slice_index_or}
+use Rattle.std.specs.Prelude.{◌≡◌, ◌≢◌, ℕ, zero, suc, Bool, not, nat_eq, Option, Some, None, List, [], ◌∷◌, length, map, fold, option_and_then, flat_map, slice_index_or}
 use Rattle.std.specs.BTreeMap.{get}
-use Rattle.std.specs.Cmp.Lexicographic.{slice_cmp}
+use Rattle.std.specs.Cmp.Lexicographic.{pointwise, slice_cmp}
 use Rattle.std.specs.FinMap.Entries.{put}
+use Rattle.std.specs.List.{list_any}
+use Rattle.std.specs.Map.{keys_of}
 use Rattle.std.specs.Ordering.{nat_cmp}
 use Rattle.std.specs.declared.cmp.Ordering.{Ordering}
 use Rattle.vfs_base.specs.Path.{Path, path_cmp}
@@ -12,6 +14,10 @@ use Rattle.name_tree.specs.declared.node.Node.{Node}
 -- the order of names: by their bytes
 abbrev pub name_cmp : List ℕ → List ℕ → Ordering
 name_cmp = slice_cmp nat_cmp
+
+-- an entry has another name
+abbrev pub has_other : List ℕ → List (List ℕ × ℕ) → Bool
+has_other name entries = list_any (λ key. not (pointwise nat_eq key name)) (keys_of entries)
 
 -- which slot has the node of this name below the node of a slot
 abbrev pub Child : Type 0

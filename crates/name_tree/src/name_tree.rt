@@ -1,21 +1,21 @@
 //! The tree of names.
 
-ghost use Rattle.std.specs.Prelude.{◌≡◌, ◌≢◌, false, length, [], ◌∷◌, Some, None, IsSome, IfNone, IfOk, OnOk, OnErr};
-ghost use Rattle.std.specs.FinMap.Entries.{find as value_at, put};
+ghost use Rattle.std.specs.Prelude.{◌≡◌, ◌≢◌, true, false, length, [], ◌∷◌, Some, None, IsSome, IfNone, IfOk, OnOk, OnErr};
+ghost use Rattle.std.specs.FinMap.Entries.{find as value_at, is_sorted, put};
 ghost use Rattle.std.specs.Option.{option_copied};
 ghost use Rattle.vfs_base.specs.Path.{path_cmp};
 ghost use Rattle.vfs_model.specs.Lookup.{is_prefix};
 ghost use Rattle.vfs_model.specs.NormalPath.{parent_of};
 ghost use Rattle.node_maps.specs.NodeMap.{moved, without};
 ghost use Rattle.name_tree.specs.Entered.{EntersFront, entered};
-ghost use Rattle.name_tree.specs.Listed.{has_below, listed};
+ghost use Rattle.name_tree.specs.Listed.{has_below, has_beside, listed};
 
 use crate::links::{
     enter_along, insert_below, relink_below, remove_below, replace_below, set_value,
 };
 use crate::listing::{gather, listed};
 use crate::node::{
-    Node, ROOT, child_of, has_entries, known_slot, named_values, slot_of, split_name,
+    Node, ROOT, child_of, has_entries, has_other, known_slot, named_values, slot_of, split_name,
 };
 use slab::Slab;
 use std::alloc::Global;
@@ -127,6 +127,7 @@ impl<T: Drop> NameTree<T> {
         requires bare { has_below new.now self.old ≡ false }
         ensures value { value_at path_cmp new.now self.old ≡ Some result }
         ensures tree { self.new ≡ moved old.now new.now self.old }
+        ensures ordered { is_sorted path_cmp self.old ≡ true }
     {
         let (front, name) = split_name(old);
         let (target, other) = split_name(new);
@@ -187,6 +188,17 @@ impl<T> NameTree<T> {
     {
         match slot_of(&self.nodes, path) {
             Some(slot) => has_entries(&self.nodes, slot),
+            None => false,
+        }
+    }
+
+    /// Whether a node stands below the path, and neither at this name there nor below that. Its time
+    /// does not grow with the number of nodes below.
+    pub fn has_beside(&self, path: &[Name], name: &Name) -> bool
+        ensures { result ≡ has_beside path.now name.now self.now }
+    {
+        match slot_of(&self.nodes, path) {
+            Some(slot) => has_other(&self.nodes, slot, name),
             None => false,
         }
     }

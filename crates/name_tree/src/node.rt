@@ -5,7 +5,7 @@ ghost use Rattle.std.specs.List.Sorted.{IsStrictlySortedBy};
 ghost use Rattle.std.specs.Map.{keys_of};
 ghost use Rattle.vfs_model.specs.NormalPath.{parent_of};
 ghost use Rattle.name_tree.specs.Changes.{named_values, with_name};
-ghost use Rattle.name_tree.specs.Layout.{child_in, entries_in, name_cmp, value_in, walk};
+ghost use Rattle.name_tree.specs.Layout.{child_in, entries_in, has_other, name_cmp, value_in, walk};
 
 use slab::Slab;
 use std::alloc::Global;
@@ -72,6 +72,23 @@ pub fn has_entries<T>(nodes: &Slab<Node<T>>, slot: usize) -> bool
         Some(node) => !node.entries.is_empty(),
         None => false,
     }
+}
+
+// Whether the node of a slot has an entry of another name.
+pub fn has_other<T>(nodes: &Slab<Node<T>>, slot: usize, name: &Name) -> bool
+    ensures { result ≡ has_other name.now (entries_in nodes.now.slots slot) }
+{
+    match nodes.get(slot) {
+        Some(node) => is_other_there(&node.entries, name),
+        None => false,
+    }
+}
+
+// Whether an entry has another name. At most two are looked at.
+fn is_other_there(entries: &BTreeMap<Name, usize>, name: &Name) -> bool
+    ensures { result ≡ has_other name.now entries.now.entries }
+{
+    entries.keys().any(|key| key != name)
 }
 
 // The values to which the entries of a slot's node lead, each by its name, in byte order.

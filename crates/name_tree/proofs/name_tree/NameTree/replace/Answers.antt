@@ -1,5 +1,5 @@
 use Rattle.std.proofs.Common.{Some, ◌∙◌}
-use Rattle.name_tree.proofs.Calls.{at-walk, bare-slot, entry-to, replace-ok, replace-sound, walk-contains, walk-front-some, walk-some}
+use Rattle.name_tree.proofs.Calls.{at-walk, bare-slot, entry-to, ordered, replace-ok, replace-sound, walk-contains, walk-front-some, walk-some}
 use Rattle.name_tree.proofs.name_tree.NameTree.replace.Goals as goal
 
 pub known_slot-at-requires : goal.known_slot-at-requires
@@ -42,3 +42,6 @@ pub returns-clause-tree : goal.returns-clause-tree
 returns-clause-tree g c =
     replace-ok c.self.invariant c.self.view_is c.split_name.result.0.now c.split_name-2.result.0.now c.split_name.result.1.now c.split_name-2.result.1.now c.split_name.ensures.path c.split_name-2.ensures.path
     c.known_slot-at.ensures c.known_slot-to.ensures c.known_slot-slot.ensures c.requires.outside c.requires.bare c.replace_below.ensures.nodes
+
+pub returns-clause-ordered : goal.returns-clause-ordered
+returns-clause-ordered g c = ordered c.self.invariant c.self.view_is
