@@ -11,6 +11,7 @@ use Rattle.node_maps.proofs.MovedNodes.{same_or_other}
 use Rattle.node_maps.specs.NodeMap.{NodeMap}
 use Rattle.name_tree.specs.Entered.{entered, put_unless}
 use Rattle.dentry_table.proofs.Belows.{below-kept}
+use Rattle.dentry_table.proofs.Tidiness.{places-kept}
 use Rattle.dentry_table.specs.DentryTable.{SameCounts, told}
 use Rattle.dentry_table.specs.Tidy.{IsTidy, IsTidyBut}
 
@@ -54,6 +55,7 @@ module _ (path : Path) (table : NodeMap ℕ) where
 
   pub entered-tidy : (count : ℕ) {room : Path} → IsTidy table room → IsTidyBut (entered count path 0 table) room path
   entered-tidy count t = record {
+    places = places-kept kept t.places;
     along = λ q bare. elim (entered-at count q) [
       | inl same ↦ inl (t.along q (record { value = sym same ∙ bare.value; below = below-kept q table (entered count path 0 table) kept bare.below }))
       | inr new ↦ inr new.2

@@ -7,19 +7,19 @@ use Rattle.vfs_model.proofs.MovedLaws.{below-longer, prefix-append}
 use Rattle.vfs_model.proofs.Trees.{at-put-here, at-put-other, at-without-here, at-without-other, prefix-splits}
 use Rattle.vfs_model.specs.Lookup.{is_below, is_prefix}
 use Rattle.vfs_model.specs.NormalPath.{parent_of}
-use Rattle.node_maps.proofs.MovedNodes.{at-later, same_or_other}
+use Rattle.node_maps.proofs.MovedNodes.{at-entry, at-later, same_or_other}
 use Rattle.node_maps.specs.NodeMap.{NodeMap, without}
 use Rattle.name_tree.proofs.Belows.{below-splits, some-below}
 use Rattle.name_tree.proofs.FoundChanges.{prefix-itself}
 use Rattle.name_tree.specs.Listed.{has_below}
 use Rattle.dentry_table.proofs.Belows.{below-front, below-kept, below-over, below-witness, prefix-chain, prefix-of-root, prefix-parent}
 use Rattle.dentry_table.specs.DentryTable.{HoldsBelow, count_at, told}
-use Rattle.dentry_table.specs.Tidy.{IsBare, IsTidy, IsTidyBut}
+use Rattle.dentry_table.specs.Tidy.{HasPlaces, IsBare, IsTidy, IsTidyBut}
 
 some-not-none : (o : Option ℕ) (count : ℕ) → o ≡ Some count → o ≢ None
 some-not-none o count e none = absurd (cc)
 
-told-there : (o : Option ℕ) → told o ≢ 0 → o ≢ None
+pub told-there : (o : Option ℕ) → told o ≢ 0 → o ≢ None
 told-there None h e = h refl
 told-there (Some count) h e = absurd (cc)
 
@@ -38,25 +38,37 @@ pub unwanted-none : (b : Bool) (n : ℕ) → (b || not (n == 0)) ≡ false → n
 unwanted-none true n h = absurd (cc)
 unwanted-none false n h = grind (arith, nat_tests)
 
+-- where no dentry goes, the places stay
+pub places-kept : {old new : NodeMap ℕ} {room : Path} → ((q : Path) → value_at path_cmp q new ≡ None → value_at path_cmp q old ≡ None) → HasPlaces old room → HasPlaces new room
+places-kept {old} {new} {room} kept p = record { root = λ none. p.root (kept [] none); last = λ none. p.last (kept room none) }
+
 -- the root alone is tidy
 pub tidy-root : IsTidy (([], 0) ∷ []) []
 tidy-root = record {
+  places = record { root = here; last = here };
   along = λ q bare. elim (same_or_other q []) [
     | inl e ↦ ap (λ p. is_prefix p []) e ∙ prefix-itself []
     | inr other ↦ absurd (some-not-none (value_at path_cmp q (([], 0) ∷ [])) 0 bare.value (at-later q ([], 0) [] other))
   ];
 }
+  where
+    start : NodeMap ℕ
+    start = ([], 0) ∷ []
+
+    here : value_at path_cmp [] start ≢ None
+    here none = let some : value_at path_cmp [] start ≡ Some 0 = at-entry [] ([], 0) [] refl in absurd (cc)
 
 pub tidy-along : {table : NodeMap ℕ} {room : Path} → IsTidy table room → (path : Path) → IsTidyBut table room path
-tidy-along t path = record { along = λ q bare. inl (t.along q bare) }
+tidy-along t path = record { along = λ q bare. inl (t.along q bare); places = t.places }
 
 -- what is bare along the room alone
 pub tidy-within : {table : NodeMap ℕ} {room path : Path} → IsTidyBut table room path → is_prefix path room ≡ true → IsTidy table room
-tidy-within {table} {room} {path} t h = record { along = λ q bare. elim (t.along q bare) [ inl along ↦ along | inr other ↦ prefix-chain q path room other h ] }
+tidy-within {table} {room} {path} t h = record { along = λ q bare. elim (t.along q bare) [ inl along ↦ along | inr other ↦ prefix-chain q path room other h ]; places = t.places }
 
 -- where the dentry at the path is wanted, those above it are not bare
 pub tidy-wanted : {table : NodeMap ℕ} {room : Path} (path : Path) → IsTidyBut table room path → (has_below path table || not (count_at table path == 0)) ≡ true → IsTidy table room
 tidy-wanted {table} {room} path t wanted = record {
+  places = t.places;
   along = λ q bare. elim (t.along q bare) [
     | inl along ↦ along
     | inr along ↦ absurd (elim (same_or_other q path) [ inl e ↦ not-here q e bare | inr other ↦ not-above q other along bare ])
@@ -85,6 +97,7 @@ tidy-held {table} path t held = tidy-wanted path t (zero-or (count_at table path
 -- a count that changes at a dentry
 pub tidy-put : {table : NodeMap ℕ} {room : Path} (path : Path) (count : ℕ) → IsTidyBut table room path → IsTidyBut (put path_cmp path count table) room path
 tidy-put {table} path count t = record {
+  places = places-kept kept t.places;
   along = λ q bare. elim (same_or_other q path) [
     | inl e ↦ inr (ap (λ p. is_prefix p path) e ∙ prefix-itself path)
     | inr other ↦ t.along q (record {
@@ -100,15 +113,22 @@ tidy-put {table} path count t = record {
       | inr other ↦ sym (at-put-other path r count table other) ∙ none
     ]
 
--- a dentry that goes leaves those above it
-pub tidy-without : {table : NodeMap ℕ} {room : Path} (path : Path) → IsTidyBut table room path → IsTidyBut (without path table) room (parent_of path)
-tidy-without {table} {room} path t = record {
+-- a dentry that goes, beside the room, leaves those above it
+pub tidy-without : {table : NodeMap ℕ} {room : Path} (path : Path) → is_prefix path room ≡ false → IsTidyBut table room path → IsTidyBut (without path table) room (parent_of path)
+tidy-without {table} {room} path beside t = record {
+  places = record { root = left [] (prefix-append [] room) t.places.root; last = left room (prefix-itself room) t.places.last };
   along = λ q bare. elim (same_or_other q path) [
     | inl e ↦ absurd (some-not-none (value_at path_cmp q (without path table)) 0 bare.value (ap (λ p. value_at path_cmp p (without path table)) e ∙ at-without-here path table))
     | inr other ↦ elim (in-front q other bare) [ inl along ↦ inl along | inr front ↦ inr (prefix-parent q path front other) ]
   ];
 }
   where
+    left : (q : Path) → is_prefix q room ≡ true → value_at path_cmp q table ≢ None → value_at path_cmp q (without path table) ≢ None
+    left q along there none = elim (same_or_other q path) [
+      | inl e ↦ let yes : is_prefix path room ≡ true = ap (λ p. is_prefix p room) (sym e) ∙ along in absurd (cc)
+      | inr other ↦ there (sym (at-without-other path q table other) ∙ none)
+    ]
+
     below-left : (q : Path) → is_prefix q path ≡ false → has_below q table ≡ true → has_below q (without path table) ≡ true
     below-left q aside b =
         let w = below-witness q table b in

@@ -1,10 +1,29 @@
 -- What a contract sees of a `DentryTable`: how many holders each path has, and what becomes of these numbers.
-use Rattle.std.specs.Prelude.{◌≡◌, ◌≢◌, ℕ, ◌+◌, ◌==◌, true, not, filter, Option, Some, None, if◌then◌else◌}
+use Rattle.std.specs.Prelude.{◌≡◌, ◌≢◌, ℕ, ◌+◌, ◌++◌, ◌==◌, true, false, not, filter, Option, Some, None, if◌then◌else◌}
 use Rattle.std.specs.FinMap.Entries.{find as value_at}
 use Rattle.vfs_base.specs.Path.{Path, path_cmp}
-use Rattle.vfs_model.specs.Lookup.{is_below}
+use Rattle.vfs_model.specs.Lookup.{is_below, is_prefix}
 use Rattle.vfs_model.specs.Namespace.{same_path}
 use Rattle.node_maps.specs.NodeMap.{NodeMap}
+
+-- how many holders each path has, and the room of a planned move: the path to which it goes, or `[]`
+pub record Dentries : Type 0 where
+  pub counts : NodeMap ℕ
+  pub room : Path
+
+-- a move: what stands at and below one path is to stand at and below another
+pub record Planned : Type 0 where
+  pub from : Path
+  pub to : Path
+
+-- there is room for the move
+abbrev pub HasRoom : Dentries → Planned → Type 0
+HasRoom table plan = table.room ≡ plan.to
+
+-- neither path stands at or below the other
+pub record AreApart (from to : Path) : Type 0 where
+  pub outside : is_prefix from to ≡ false
+  pub above : is_prefix to from ≡ false
 
 -- a number that may not be told is 0
 abbrev pub told : Option ℕ → ℕ
@@ -42,6 +61,17 @@ pub record Lowers (old new : NodeMap ℕ) (path : Path) : Type 0 where
 -- the path has no holder, and each other path as many as before
 pub record Takes (old new : NodeMap ℕ) (path : Path) : Type 0 where
   pub counts : (q : Path) → count_at new q ≡ (if same_path q path then 0 else count_at old q)
+
+-- each path at and below `to` has the holders that the one at and below `from` had, and that one none;
+-- each other path has as many as before
+pub record Moves (old new : NodeMap ℕ) (from to : Path) : Type 0 where
+  pub there : (rest : Path) → count_at new (to ++ rest) ≡ count_at old (from ++ rest)
+  pub gone : (rest : Path) → count_at new (from ++ rest) ≡ 0
+  pub others : (q : Path) → is_prefix from q ≡ false → is_prefix to q ≡ false → count_at new q ≡ count_at old q
+
+-- no path below this one has a holder
+pub record HoldsNothingBelow (table : NodeMap ℕ) (path : Path) : Type 0 where
+  pub counts : (q : Path) → is_below path q ≡ true → count_at table q ≡ 0
 
 -- a path below this one has a holder
 pub record HoldsBelow (table : NodeMap ℕ) (path : Path) : Type 0 where

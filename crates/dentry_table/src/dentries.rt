@@ -119,14 +119,14 @@ pub fn keep_held(list: &mut List<(Path, u32)>)
 }
 
 // Whether the second path begins with the first.
-fn is_prefix(front: &[Name], path: &[Name]) -> bool
+pub fn is_prefix(front: &[Name], path: &[Name]) -> bool
     ensures { result ≡ is_prefix front.now path.now }
 {
     path.starts_with(front)
 }
 
 // The path of the parent; that of the root is the root's.
-fn parent(path: &[Name]) -> &[Name]
+pub fn parent(path: &[Name]) -> &[Name]
     ensures { result.now ≡ parent_of path.now }
 {
     &path[..path.len().saturating_sub(1)]

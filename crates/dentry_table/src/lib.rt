@@ -1,12 +1,15 @@
 //! How many holders each path has: the paths in use, which a tree of names keeps.
 //!
-//! A contract sees a `DentryTable` as the numbers by path; `count_at` tells the number of holders of a
-//! path, and each call says what becomes of it at every path. A dentry stands at each path that has a
-//! holder or leads to one, and else at the root alone; so a call takes the time of a walk along its path.
+//! A contract sees a `DentryTable` as the numbers by path and the room of a planned move. A dentry stands
+//! at each path that has a holder or leads to one, at the root and along the room; so a call takes the time
+//! of a walk along its path, and a move takes no longer where much is held below.
 //! It knows nothing of what holds a path, and nothing of files.
 #![tactic(auto)]
 
 mod dentries;
 mod dentry_table;
+mod move_plan;
+mod room;
 
 pub use dentry_table::DentryTable;
+pub use move_plan::MovePlan;

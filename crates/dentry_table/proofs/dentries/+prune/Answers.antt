@@ -14,7 +14,7 @@ returns-then-is_prefix-clause-tidy t c = elim c.then-is_prefix.branch [
 pub prune-requires : goal.prune-requires
 prune-requires t c =
     let h : length c.parent.result.now < length c.args.path.now = rw c.parent.ensures (parent-shorter c.args.path.now c.args.room.now (sym c.if-is_prefix.ensures)) in
-    (omega (arith, h, c.decreases), rw (c.remove.ensures.tree, c.parent.ensures) (tidy-without c.args.path.now c.requires))
+    (omega (arith, h, c.decreases), rw (c.remove.ensures.tree, c.parent.ensures) (tidy-without c.args.path.now (sym c.if-is_prefix.ensures) c.requires))
 
 pub returns-clause-counts : goal.returns-clause-counts
 returns-clause-counts t c =
