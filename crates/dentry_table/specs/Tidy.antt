@@ -11,12 +11,12 @@ pub record IsBare (table : NodeMap ℕ) (path : Path) : Type 0 where
   pub value : value_at path_cmp path table ≡ Some 0
   pub below : has_below path table ≡ false
 
--- a dentry stands at the root, and at the path of the room
+-- a dentry stands at the root, and at the path of the room; so one stands at each place between
 pub record HasPlaces (table : NodeMap ℕ) (room : Path) : Type 0 where
   pub root : value_at path_cmp [] table ≢ None
   pub last : value_at path_cmp room table ≢ None
 
--- no dentry is bare but along the room, a path, and all along it stand; along `[]` stands the root alone
+-- no dentry is bare but along the room, a path, whose places are there; along `[]` stands the root alone
 pub record IsTidy (table : NodeMap ℕ) (room : Path) : Type 0 where
   pub along : (q : Path) → IsBare table q → is_prefix q room ≡ true
   pub places : HasPlaces table room
