@@ -13,13 +13,16 @@ command -v valgrind >/dev/null || {
     exit 1
 }
 
-# The instructions of a whole run; none where the task was not done.
+# The instructions of a whole run. It fails where the task was not done, or nothing was counted.
 instructions() {
     told=$(valgrind --tool=callgrind --callgrind-out-file=/dev/null "$program" "$@" 2>&1) || {
         echo "bench: the task is not done: $*" >&2
         exit 1
     }
-    echo "$told" | awk '/Collected/ { print $NF }'
+    echo "$told" | awk '/Collected/ { print $NF; counted = 1 } END { exit !counted }' || {
+        echo "bench: valgrind counts nothing: $*" >&2
+        exit 1
+    }
 }
 
 printf '%-10s %10s %14s %9s\n' task bytes instructions 'a byte'
