@@ -60,13 +60,13 @@ passed-next f asked (mark.Fault moved) = either-next (moved == 0) (refused_file 
 passed-next f asked (mark.NoMem moved) = either-next (moved == 0) (refused_file f errno.ENOMEM) (move f asked moved)
 
 -- a step of a file that the row may have, by what moves and what is left
-pub taken : (generation : ℕ) (old new : RowFile) (f : FileState) (asked : Step) (answer : Reply) (m : Mark) → MayHave (record { generation = generation; file = old }) f → may_stop f asked m ≡ true →
-    answer ≡ answer_under m (move f asked (moved_under m (count_of f asked))).reply →
+pub taken : {generation : ℕ} {old new : RowFile} {answer : Reply} (f : FileState) (asked : Step) (m : Mark) → MayHave (record { generation = generation; file = old }) f →
+    may_stop f asked m ≡ true → answer ≡ answer_under m (move f asked (moved_under m (count_of f asked))).reply →
     MayHave (record { generation = generation; file = new }) (left_under m f (move f asked (moved_under m (count_of f asked))).next) → Takes generation old new asked answer m
-taken generation old new f asked answer m has stops answers leaves = record {
+taken f asked m has stops answers leaves = record {
   before = f;
   has = has;
   stops = stops;
   answers = answers ∙ sym (passed-reply f asked m);
-  leaves = subst (MayHave (record { generation = generation; file = new })) (sym (passed-next f asked m)) leaves;
+  leaves = subst (MayHave _) (sym (passed-next f asked m)) leaves;
 }

@@ -4,7 +4,6 @@ use Rattle.std.proofs.Common.{sym, ◌∙◌, ap, subst}
 use Rattle.vfs_base.specs.declared.entry.Mark.{Mark}
 use Rattle.vfs_base.specs.declared.entry.Mark.TheVariants as mark
 use Rattle.vfs_base.specs.declared.errno.Errno.{Errno}
-use Rattle.vfs_base.specs.declared.errno.Errno.TheVariants as errno
 use Rattle.vfs_base.specs.declared.kinds.Kind.{Kind}
 use Rattle.vfs_base.specs.declared.kinds.Kind.TheVariants as kind
 use Rattle.vfs_base.specs.declared.limits.TheConstants.{TMP_FILE_MAX}
@@ -88,22 +87,21 @@ steps-of generation old new asked answer m passed t calls =
     }
 
 -- a step of bytes in memory
-memory-takes : (generation : ℕ) (k : Kind) (room : ℕ) (old new : RowFile) (before after : List ℕ) (asked : Step) (answer : Reply) (m : Mark) →
+memory-takes : {generation : ℕ} {k : Kind} {room : ℕ} {old new : RowFile} {before after : List ℕ} (asked : Step) (answer : Reply) (m : Mark) →
     MayHave (record { generation = generation; file = old }) (file.Bytes generation k room before) → MayHave (record { generation = generation; file = new }) (file.Bytes generation k room after) →
     (after ≡ before → new ≡ old) → TakesMemory k room before after asked answer m → Takes generation old new asked answer m
-memory-takes generation k room old new before after asked answer mark.Clear has leaves same h =
+memory-takes {generation} {new = new} asked answer mark.Clear has leaves same h =
     let moved = h generation in
-    taken generation old new (file.Bytes generation k room before) asked answer mark.Clear has refl
+    taken _ asked mark.Clear has refl
     (ap (λ (o : FileOutcome). o.reply) (sym moved))
     (subst (λ (o : FileOutcome). MayHave (record { generation = generation; file = new }) o.next) (sym moved) leaves)
-memory-takes generation k room old new before after asked answer (mark.Fault moved) has leaves same h = absurd h
-memory-takes generation k room old new before after asked answer (mark.NoMem moved) has leaves same h =
-    rw h.0 (rw h.1 (rw (same h.2) (taken generation old old (file.Bytes generation k room before) asked (reply.Refused errno.ENOMEM) (mark.NoMem 0) has refl refl has)))
+memory-takes asked answer (mark.Fault moved) has leaves same h = absurd h
+memory-takes asked answer (mark.NoMem moved) has leaves same h = rw h.0 (rw h.1 (rw (same h.2) (taken _ asked (mark.NoMem 0) has refl refl has)))
 
 pub tmp-takes : (generation : ℕ) (before after : List ℕ) (asked : Step) (answer : Reply) (m : Mark) → TakesMemory kind.Tmp TMP_FILE_MAX before after asked answer m →
     Takes generation (Tmp before) (Tmp after) asked answer m
 tmp-takes generation before after asked answer m h =
-    memory-takes generation kind.Tmp TMP_FILE_MAX (Tmp before) (Tmp after) before after asked answer m
+    memory-takes asked answer m
     (record { shape = refl; told = refl }) (record { shape = refl; told = refl }) (λ e. ap Tmp e) h
 
 abbrev bytes_in : FileState → List ℕ
@@ -126,14 +124,14 @@ pub rom-takes : (generation : ℕ) (before after : List ℕ) (asked : Step) (ans
     TakesMemory kind.Rom (length before) before after asked answer m → Takes generation (Rom before) (Rom after) asked answer m
 rom-takes generation before after asked answer m passed h =
     let same = rom-kept (length before) before after asked answer m passed h in
-    memory-takes generation kind.Rom (length before) (Rom before) (Rom after) before after asked answer m
+    memory-takes asked answer m
     (record { shape = refl; told = refl })
     (rw same (record { shape = refl; told = refl })) (λ e. ap Rom e) h
 
 -- a row without a file
 pub unbound-takes : (generation : ℕ) (asked : Step) → Takes generation Unbound Unbound asked reply.Done mark.Clear
 unbound-takes generation asked =
-    taken generation Unbound Unbound (file.Unbound generation) asked reply.Done mark.Clear (record { shape = refl; told = refl }) refl refl (record { shape = refl; told = refl })
+    taken (file.Unbound generation) asked mark.Clear (record { shape = refl; told = refl }) refl refl (record { shape = refl; told = refl })
 
 -- a file that the row may have
 record HasFile (row : Row) : Type 0 where

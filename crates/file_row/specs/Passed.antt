@@ -135,21 +135,24 @@ is_short mark.Clear count = true
 is_short (mark.Fault moved) count = moved == 0 || nat_lt moved count
 is_short (mark.NoMem moved) count = moved == 0
 
--- so many bytes were read of a character device
-pub record ReadsChars (len : ℕ) (old new : CharsState) (answer : Reply) (m : Mark) : Type 0 where
+-- A transfer to or from a character device: how many bytes it moves, what it answers where it moved so many, and what the device
+-- holds then.
+pub record PassesChars (count : CharsContents → ℕ) (answered : CharsContents → ℕ → Reply) (becomes : CharsContents → ℕ → CharsContents) (old new : CharsState) (answer : Reply) (m : Mark) : Type 0 where
   pub held : CharsContents
   pub before : MayTell old held
-  pub within : is_short m (min len (length held.input)) ≡ true
-  pub answers : answer ≡ answer_under m (reply.Got (take (moved_under m (min len (length held.input))) held.input))
-  pub after : MayTell new (behind_read (moved_under m (min len (length held.input))) held)
+  pub within : is_short m (count held) ≡ true
+  pub answers : answer ≡ answer_under m (answered held (moved_under m (count held)))
+  pub after : MayTell new (becomes held (moved_under m (count held)))
+
+-- so many bytes were read of a character device, or as many as there are
+abbrev pub ReadsChars : ℕ → CharsState → CharsState → Reply → Mark → Type 0
+ReadsChars len old new answer m =
+    PassesChars (λ held. min len (length held.input)) (λ held moved. reply.Got (take moved held.input)) (λ held moved. behind_read moved held) old new answer m
 
 -- a piece was written to a character device
-pub record WritesChars (piece : List ℕ) (old new : CharsState) (answer : Reply) (m : Mark) : Type 0 where
-  pub held : CharsContents
-  pub before : MayTell old held
-  pub within : is_short m (length piece) ≡ true
-  pub answers : answer ≡ answer_under m (reply.Count (moved_under m (length piece)) 0)
-  pub after : MayTell new (behind_write (take (moved_under m (length piece)) piece) held)
+abbrev pub WritesChars : List ℕ → CharsState → CharsState → Reply → Mark → Type 0
+WritesChars piece old new answer m =
+    PassesChars (λ held. length piece) (λ held moved. reply.Count moved 0) (λ held moved. behind_write (take moved piece) held) old new answer m
 
 -- what holds of the file of each row
 abbrev pub IsSound : RowFile → Type 0

@@ -8,7 +8,7 @@ ghost use Rattle.vfs_model.specs.Leaving.{is_starved};
 ghost use Rattle.vfs_model.specs.Tally.{needs_no_memory};
 ghost use Rattle.vfs_model.specs.declared.namespace.Namespace.{Namespace};
 ghost use Rattle.cell_file.specs.CellFile.{capacity};
-ghost use Rattle.file_row.specs.Passed.{IsSound, ReadsAt, RunsCell, Takes, WritesAt};
+ghost use Rattle.file_row.specs.Passed.{IsSound, ReadsAt, RunsCell, Takes, WritesAt, cell_count};
 ghost use Rattle.file_row.specs.Row.{Cell};
 ghost use Rattle.file_row.specs.Steps.{FaultsGo};
 
@@ -30,8 +30,7 @@ pub fn step_cell<B: Block>(file: &mut CellFile<B>, alloc: Global, step: &Step) -
     ensures sure { (n : Namespace) (k : ℕ) → needs_no_memory n k step.now ≡ true → is_starved result.1 ≡ false }
 {
     let size = file.size();
-    let count = bytes_count(file.capacity(), size, step);
-    let _counts = file.counts();
+    let count = count_of(file, step);
     match step {
         Step::Size { .. } => (Reply::SizeIs { size }, Mark::Clear),
         Step::Read { off, .. } | Step::Load { off, .. } => read(file, alloc, *off, count),
@@ -44,6 +43,15 @@ pub fn step_cell<B: Block>(file: &mut CellFile<B>, alloc: Global, step: &Step) -
         Step::Reclaim { .. } => answer(file.reclaim(), Reply::Done),
         _ => (Reply::Done, Mark::Clear),
     }
+}
+
+// How many bytes the step moves where nothing stops it.
+fn count_of<B: Block>(file: &CellFile<B>, step: &Step) -> u64
+    ensures count { result ≡ cell_count file.now step.now }
+    ensures sound { IsSound (Cell file.now) }
+{
+    let _counts = file.counts();
+    bytes_count(file.capacity(), file.size(), step)
 }
 
 // So many bytes from the offset on. The reply's own bytes are all the room that it takes.

@@ -20,7 +20,7 @@ use vfs_outside::Chars;
 #[tactic(auto, unfolding(vfs_model::specs::Tally::needs_no_memory))]
 pub fn step_device<C: Chars>(device: &mut C, alloc: Global, step: &Step) -> (Reply, Mark)
     requires { device_refusals step.now ≡ Ok tt }
-    ensures takes { (generation : ℕ) → Takes generation
+    ensures takes { (g : ℕ) → Takes g
         (Char (seen C.contents C.faults device.old)) (Char (seen C.contents C.faults device.new)) step.now result.0 result.1 }
     ensures cause { FaultsGo result.1 (C.faults device.old) (C.faults device.new) }
     ensures sure { (n : Namespace) (k : ℕ) → needs_no_memory n k step.now ≡ true → is_starved result.1 ≡ false }

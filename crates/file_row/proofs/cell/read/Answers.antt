@@ -2,7 +2,7 @@ use Rattle.std.proofs.Common.{◌≡◌, ◌∙◌, ◌*◌, ap, length, refl, s
 use Rattle.vfs_base.specs.declared.limits.TheConstants.{PAGE_SIZE}
 use Rattle.cell_file.specs.CellFile.{is_within}
 use Rattle.cell_file.specs.Moves.{Runs, reading_pages}
-use Rattle.file_row.proofs.CellSteps.{front-filled, inside-of, reads-at, reads-none, reads-starved}
+use Rattle.file_row.proofs.CellSteps.{Call, front-filled, inside-of, reads-at, reads-none, reads-starved}
 use Rattle.file_row.proofs.cell.read.Goals as goal
 
 pub returns-then-count-eq0 : goal.returns-then-count-eq0
@@ -24,10 +24,12 @@ returns g c =
     let full : length out ≡ c.args.count = c.read-mark.auto.out ∙ lent ∙ c.in-Ok.ensures in
     let bytes = c.truncate.ensures ∙ front-filled c.moved_under.result _ _ out refl (c.read-mark.auto.out ∙ lent) ∙ ap (λ k. take k out) c.moved_under.ensures in
     let size = lent ∙ c.in-Ok.ensures in
-    rw (c.answer.ensures, bytes) (reads-at c.args.off c.args.count f c.read-mark.new.self out m
-    (record { sound = c.requires.sound.0; counted = c.requires.sound.1; cell = ap (λ n. PAGE_SIZE * n) call.pages })
-    full
-    (inside-of c.args.off c.args.count f.size c.if-count-eq0.false c.requires.inside)
-    (subst (λ n. is_within m n ≡ true) size call.within)
-    call.read call.bytes call.size
+    let cell : Call f c.read-mark.new.self = record { sound = c.requires.sound.0; counted = c.requires.sound.1; cell = ap (λ n. PAGE_SIZE * n) call.pages } in
+    rw (c.answer.ensures, bytes) (reads-at c.args.off c.args.count out m (record { call = cell; told = call.bytes; size = call.size })
+    (record {
+      full = full;
+      inside = inside-of c.args.off c.args.count f.size c.if-count-eq0.false c.requires.inside;
+      within = subst (λ n. is_within m n ≡ true) size call.within;
+      read = call.read;
+    })
     (subst (λ n. Runs (reading_pages c.args.off n) f.state c.read-mark.new.self.state m) size call.runs))

@@ -13,6 +13,6 @@ pub returns : goal.returns
 returns g c =
     let call = c.write-mark.ensures in
     let count = c.moved_under-n.ensures in
-    rw (c.answer.ensures, count) (writes-at c.args.off c.args.piece.now c.args.file.now c.write-mark.new.self c.write-mark.result
+    rw (c.answer.ensures, count) (writes-at c.args.off c.args.piece.now c.write-mark.result
     (record { sound = c.requires.sound.0; counted = c.requires.sound.1; cell = ap (λ n. PAGE_SIZE * n) call.pages })
-    call.within call.bytes call.size call.runs)
+    (record { within = call.within; told = call.bytes; size = call.size }) call.runs)

@@ -1,5 +1,4 @@
 use Rattle.std.proofs.Common.{◌≡◌, ◌∙◌, ◌-◌, ◌≤◌, IfSome, ap, arith, length, min, refl, subst}
-use Rattle.vfs_base.specs.declared.entry.Mark.TheVariants as mark
 use Rattle.file_row.specs.Row.{seen}
 use Rattle.file_row.proofs.CellSteps.{front-filled}
 use Rattle.file_row.proofs.DeviceSteps.{chars-read, chars-starved, less-short, read-seen, stop-seen}
@@ -19,7 +18,7 @@ returns-in-Ok-read-clause-reads g c =
     let old = seen g.C.Chars.contents g.C.Chars.faults c.args.device.now in
     let new = seen g.C.Chars.contents g.C.Chars.faults c.read.new.self in
     rw (c.truncate.ensures ∙ front-filled n _ _ out refl (c.read.auto.out ∙ lent))
-    (chars-read old new c.args.len n n out mark.Clear (omega arith) (omega (arith, full, low, room)) low refl refl
+    (chars-read {old = old} {new = new} (record { low = omega arith; bounded = omega (arith, full, low, room); inside = low; short = refl; moved = refl })
     (read-seen old.contents c.args.len c.read_room.result n out c.read_room.ensures.told
     (subst (λ k. IfSome old.contents (λ t. n ≡ min k (length t.input))) full c.in-Ok-read.ensures.full)
     c.in-Ok-read.ensures.bytes)
@@ -36,7 +35,14 @@ returns-in-Err-clause-reads g c =
     let old = seen g.C.Chars.contents g.C.Chars.faults c.args.device.now in
     let new = seen g.C.Chars.contents g.C.Chars.faults c.read.new.self in
     rw (c.answer.ensures, c.truncate-in-Err.ensures ∙ front-filled n _ _ out refl (c.read.auto.out ∙ lent))
-    (chars-read old new c.args.len n c.args.len out (mark.Fault n) (omega (arith, full, low, room)) (omega arith) (omega (arith, low)) (less-short n c.args.len (omega (arith, full, low, room))) refl
+    (chars-read {old = old} {new = new}
+    (record {
+      low = omega (arith, full, low, room);
+      bounded = omega arith;
+      inside = omega (arith, low);
+      short = less-short n c.args.len (omega (arith, full, low, room));
+      moved = refl;
+    })
     (stop-seen old.contents c.args.len c.read_room.result n out c.read_room.ensures.told
     (subst (λ k. IfSome old.contents (λ t. n ≤ min k (length t.input) - 1)) full c.in-Err.ensures.short)
     c.in-Err.ensures.bytes)
