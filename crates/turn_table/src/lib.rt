@@ -12,8 +12,6 @@ mod pass;
 mod passes;
 mod plays;
 mod table;
-#[cfg(test)]
-mod tests;
 mod turns;
 mod view;
 

@@ -1,14 +1,15 @@
-use Rattle.std.proofs.Common.{◌≡◌, true, [], All, vec_len}
+use Rattle.std.proofs.Common.{◌≡◌, ◌+◌, true, [], length, All, vec_len}
 use Rattle.turn_table.specs.Passes.{IsSpare}
-use Rattle.turn_table.proofs.tests.open_desks.Given as goal
+use Rattle.turn_cases.proofs.desks.join_desks.Given as goal
 
 abbrev pub invariant-loop-desk : goal.invariant-loop-desk
 invariant-loop-desk l = record {
   table : l.first.0 ≡ l.table;
   held : l.first.1.held ≡ [];
-  joined : l.first.1.joined ≡ [];
   opens : l.first.1.opens ≡ true;
-  made : l.first.1.made ≡ l._desk;
-  count : vec_len l.desks ≡ l._desk;
+  made : length l.first.1.joined + vec_len l.desks ≡ l.first.1.made;
   spare : All (λ desk. (desk.pass.0 ≡ l.table) × IsSpare desk.pass.1) l.desks.items;
 }
+
+abbrev pub decreases-loop-desk : goal.decreases-loop-desk
+decreases-loop-desk l = vec_len l.desks
