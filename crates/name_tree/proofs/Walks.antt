@@ -1,7 +1,7 @@
 -- Walks along names, from slot to slot.
-use Rattle.std.proofs.Common.{◌≡◌, ◌≢◌, ℕ, zero, suc, ◌+◌, ◌≤◌, true, false, Option, Some, None, List, [], ◌∷◌, ◌++◌, ◌⊎◌, inl, inr, length, drop, option_and_then, refl, sym, ap, ◌∙◌, arith, append_assoc, length-append}
+use Rattle.std.proofs.Common.{◌≡◌, ◌≢◌, ℕ, zero, suc, ◌+◌, ◌≤◌, ◌<◌, true, false, Option, Some, None, List, [], ◌∷◌, ◌++◌, ◌⊎◌, inl, inr, length, drop, option_and_then, get_or, take, refl, sym, ap, ◌∙◌, arith, append_assoc, length-append}
 use Rattle.std.proofs.lemmas.Bool.{cases_eq}
-use Rattle.std.proofs.lemmas.List.{nil_from_length}
+use Rattle.std.proofs.lemmas.List.{nil_from_length, take_more}
 use Rattle.std.specs.Cmp.Lexicographic.{pointwise, bytes_decides}
 use Rattle.std.specs.Prelude.{nat_eq}
 use Rattle.vfs_base.specs.Path.{Path}
@@ -17,6 +17,17 @@ walk-append C slot (name ∷ front) rest = elim (C slot name) as (λ o. option_a
   | None ↦ refl
   | Some below ↦ walk-append C below front rest
 ]
+
+-- a walk that goes one name further
+pub walk-more : (C : Child) (path : Path) (at slot : ℕ) (d : List ℕ) (to : Option ℕ) → at < length path → walk C 0 (take at path) ≡ Some slot →
+    C slot (get_or path at d) ≡ to → walk C 0 (take (at + 1) path) ≡ to
+walk-more C path at slot d to l w e =
+    ap (walk C 0) (take_more path at d l) ∙ walk-append C 0 (take at path) (get_or path at d ∷ [])
+    ∙ ap (option_and_then (λ below. walk C below (get_or path at d ∷ []))) w ∙ one_more (C slot (get_or path at d)) ∙ e
+  where
+    one_more : (o : Option ℕ) → option_and_then (λ (b : ℕ). Some b) o ≡ o
+    one_more None = refl
+    one_more (Some b) = refl
 
 -- a walk comes by the slot of each path above
 pub walk-front : (C : Child) (slot : ℕ) (front rest : Path) (to : ℕ) → walk C slot (front ++ rest) ≡ Some to →

@@ -1,6 +1,6 @@
 //! The tree of names.
 
-ghost use Rattle.std.specs.Prelude.{◌≡◌, ◌≢◌, true, false, length, [], ◌∷◌, Some, None, IsSome, IfNone, IfOk, OnOk, OnErr};
+ghost use Rattle.std.specs.Prelude.{◌≡◌, ◌≢◌, ◌≤◌, ◌<◌, ◌+◌, true, false, length, take, [], ◌∷◌, Some, None, IsSome, IfNone, IfOk, OnOk, OnErr};
 ghost use Rattle.std.specs.FinMap.Entries.{find as value_at, is_sorted, put};
 ghost use Rattle.std.specs.Option.{option_copied};
 ghost use Rattle.vfs_base.specs.Path.{path_cmp};
@@ -15,7 +15,8 @@ use crate::links::{
 };
 use crate::listing::{gather, listed};
 use crate::node::{
-    Node, ROOT, child_of, has_entries, has_other, known_slot, named_values, slot_of, split_name,
+    Node, ROOT, child_of, has_entries, has_other, known_slot, named_values, reached_slot, slot_of,
+    split_name,
 };
 use slab::Slab;
 use std::alloc::Global;
@@ -173,6 +174,20 @@ impl<T> NameTree<T> {
         let slot = slot_of(&self.nodes, path)?;
         let node = self.nodes.get(slot)?;
         Some(&node.value)
+    }
+
+    /// How far the path leads: how many of its first names lead to a node, as many as do, and the
+    /// value of that node. The path is walked along once.
+    pub fn reach(&self, path: &[Name]) -> (usize, &T)
+        ensures within { result.0 ≤ length path.now }
+        ensures value { value_at path_cmp (take result.0 path.now) self.now ≡ Some result.1.now }
+        ensures ends { result.0 < length path.now → value_at path_cmp (take (result.0 + 1) path.now) self.now ≡ None }
+    {
+        let (count, slot) = reached_slot(&self.nodes, path);
+        match self.nodes.get(slot) {
+            Some(node) => (count, &node.value),
+            None => unreachable!(),
+        }
     }
 
     /// How many nodes there are, the root among them.

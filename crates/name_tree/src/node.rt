@@ -1,6 +1,6 @@
 //! The nodes of a tree of names, each in its slot, and what is found among them.
 
-ghost use Rattle.std.specs.Prelude.{◌≡◌, ◌≢◌, [], ◌∷◌, ◌++◌, not, ◌==◌, length, Some, IfOk, OnOk, IsSome};
+ghost use Rattle.std.specs.Prelude.{◌≡◌, ◌≢◌, ◌≤◌, ◌<◌, ◌+◌, [], ◌∷◌, ◌++◌, not, ◌==◌, length, take, None, Some, IfOk, OnOk, IsSome};
 ghost use Rattle.std.specs.List.Sorted.{IsStrictlySortedBy};
 ghost use Rattle.std.specs.Map.{keys_of};
 ghost use Rattle.vfs_model.specs.NormalPath.{parent_of};
@@ -51,6 +51,22 @@ pub fn slot_of<T>(nodes: &Slab<Node<T>>, path: &[Name]) -> Option<usize>
         slot = child_of(nodes, slot, name)?;
     }
     Some(slot)
+}
+
+// How many of the first names lead from the root on to a node, as many as do, and its slot.
+pub fn reached_slot<T>(nodes: &Slab<Node<T>>, path: &[Name]) -> (usize, usize)
+    ensures within { result.0 ≤ length path.now }
+    ensures leads { walk (child_in nodes.now.slots) 0 (take result.0 path.now) ≡ Some result.1 }
+    ensures ends { result.0 < length path.now → walk (child_in nodes.now.slots) 0 (take (result.0 + 1) path.now) ≡ None }
+{
+    let mut slot = ROOT;
+    for at in 0..path.len() {
+        match child_of(nodes, slot, &path[at]) {
+            Some(below) => slot = below,
+            None => return (at, slot),
+        }
+    }
+    (path.len(), slot)
 }
 
 // The slot to which the names lead from the root on, where they lead to a node.

@@ -1,6 +1,6 @@
 //! The tree of a file system in memory.
 
-ghost use Rattle.std.specs.Prelude.{◌≡◌, [], ◌==◌, false, length, map, Some, None, IfOk, IfErr, OnOk, OnErr};
+ghost use Rattle.std.specs.Prelude.{◌≡◌, [], ◌==◌, ◌≤◌, ◌<◌, ◌+◌, false, length, take, map, Some, None, IfOk, IfErr, OnOk, OnErr};
 ghost use Rattle.std.specs.FinMap.Entries.{find as value_at, put};
 ghost use Rattle.vfs_base.specs.Path.{path_cmp};
 ghost use Rattle.vfs_base.specs.declared.kinds.NodeKind.TheVariants as node_kind;
@@ -53,6 +53,17 @@ impl NodeTree {
         ensures { result ≡ node_in self.now path.now }
     {
         self.names.find(path).copied()
+    }
+
+    /// How far the path leads: how many of its first names lead to a node, as many as do, and that
+    /// node. Where none does, it is the root. The path is walked along once.
+    pub fn reach(&self, path: &[Name]) -> (usize, NodeKind)
+        ensures within { result.0 ≤ length path.now }
+        ensures node { node_in self.now (take result.0 path.now) ≡ Some result.1 }
+        ensures ends { result.0 < length path.now → node_in self.now (take (result.0 + 1) path.now) ≡ None }
+    {
+        let (count, node) = self.names.reach(path);
+        (count, *node)
     }
 
     /// How many nodes there are beside the root.
