@@ -148,7 +148,8 @@ impl MountTree {
 
     /// The mount of this number; `None` exactly where there is none.
     pub fn find(&self, id: MountId) -> Option<&Mount>
-        ensures { option_copied result ≡ mount_numbered self.now id }
+        ensures mount { option_copied result ≡ mount_numbered self.now id }
+        ensures sound { AreMounts self.now }
     {
         if is_numbered(&self.root, id.number()) {
             return Some(&self.root);
@@ -159,7 +160,8 @@ impl MountTree {
     /// Where the mount is mounted, which is there.
     pub fn point(&self, id: MountId) -> &Path
         requires { has_number self.now id ≡ true }
-        ensures { option_map (λ mount. mount.point) (mount_numbered self.now id) ≡ Some result.now }
+        ensures point { option_map (λ mount. mount.point) (mount_numbered self.now id) ≡ Some result.now }
+        ensures sound { AreMounts self.now }
     {
         &self.mount(id).point
     }
@@ -182,7 +184,8 @@ impl MountTree {
 
     fn mount(&self, id: MountId) -> &Mount
         requires { has_number self.now id ≡ true }
-        ensures { mount_numbered self.now id ≡ Some result.now }
+        ensures mount { mount_numbered self.now id ≡ Some result.now }
+        ensures sound { AreMounts self.now }
     {
         let Some(mount) = self.find(id) else {
             unreachable!();
