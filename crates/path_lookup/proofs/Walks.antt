@@ -1,5 +1,5 @@
 -- A walk to a path meets folders down to the point of the path's mount, and then what the mount's tree has.
-use Rattle.std.proofs.Common.{◌≡◌, ◌≢◌, ℕ, zero, suc, ◌+◌, ◌-◌, ◌<◌, ◌≤◌, ◌==◌, Bool, true, false, cond, not, ◌||◌, Option, Some, None, is_some, List, [], ◌∷◌, ◌++◌, length, take, drop, filter, get_or, slice_index_or, ◌⊎◌, inl, inr, refl, sym, ap, subst, ◌∙◌, arith, length-append, append_assoc, if◌then◌else◌}
+use Rattle.std.proofs.Common.{◌≡◌, ◌≢◌, ℕ, zero, suc, ◌+◌, ◌-◌, ◌<◌, ◌≤◌, ◌==◌, Bool, true, false, not, ◌||◌, Option, Some, None, is_some, List, [], ◌∷◌, ◌++◌, length, take, drop, filter, slice_index_or, ◌⊎◌, inl, inr, refl, sym, ap, subst, ◌∙◌, arith, length-append, append_assoc, if◌then◌else◌}
 use Rattle.std.proofs.lemmas.Bool.Decides.{nat_tests}
 use Rattle.std.proofs.lemmas.Bool.{cases_lt}
 use Rattle.std.proofs.lemmas.List.{append-nil, length-drop, length-take-le, take-append-drop}
@@ -18,9 +18,9 @@ use Rattle.vfs_model.specs.Lookup.{covering_mount, is_dir_node, is_folder, is_pr
 use Rattle.vfs_model.specs.Namespace.{Tree, all_mounts, same_path, tree_of}
 use Rattle.vfs_model.specs.declared.namespace.Mount.{Mount}
 use Rattle.vfs_model.specs.declared.namespace.Namespace.{Namespace}
-use Rattle.world_laws.proofs.parts.Covering.{IsMount, covering-is, covers-front, covers-longest, covers-prefix, drop-front, one-point, prefix-length, prefix-trans, same-prefix, splits}
+use Rattle.world_laws.proofs.parts.Covering.{IsMount, covering-is, covers-longest, covers-prefix, drop-front, one-point, prefix-length, prefix-trans, same-prefix, splits}
 use Rattle.world_laws.proofs.parts.Nodes.{at-front, at-rest, prefix-itself, tree_at}
-use Rattle.world_laws.proofs.parts.Points.{Covered, first-or-later, mount-at, one-later, point-covers}
+use Rattle.world_laws.proofs.parts.Points.{Covered, first-or-later, one-later, point-covers}
 use Rattle.path_lookup.specs.Reach.{Reaches, node_reached, refusal_reached}
 use Rattle.path_lookup.specs.Standing.{IsStanding}
 
@@ -69,7 +69,7 @@ module _ {n : Namespace} (f : FoldersStand n) where
 module _ {tree : Tree} (closed : IsClosedTree is_dir_node tree) where
   in-dir : (front : Path) → (is_dir_node (value_at path_cmp front tree) || same_path front []) ≡ true → is_dir_node (node_in tree front) ≡ true
   in-dir [] h = refl
-  in-dir (name ∷ names) h = elim (is_dir_node (value_at path_cmp (name ∷ names) tree)) as (λ b. (b || false) ≡ true → b ≡ true) [ | true ↦ λ e. refl | false ↦ λ e. absurd (cc) ] h
+  in-dir (name ∷ names) h = elim (is_dir_node (value_at path_cmp (name ∷ names) tree)) as (λ b. (b || false) ≡ true → b ≡ true) [ true ↦ λ e. refl | false ↦ λ e. absurd (cc) ] h
 
   some-in : (front : Path) (name : List ℕ) → is_some (node_in tree (front ++ name ∷ [])) ≡ is_some (value_at path_cmp (front ++ name ∷ []) tree)
   some-in [] name = refl
@@ -257,8 +257,8 @@ module _ {n : Namespace} (s : IsStanding n) (p a left : Path) (found : NodeKind)
       ap (walk_refusal_from n []) whole ∙ walk-through n [] (point ++ a) left (λ q name b e. fronts q name b e)
       ∙ walk-end n (point ++ a) left found node
       (λ name later e.
-          let rest : rest_of n p ≡ (a ++ name ∷ []) ++ later = parts.rest ∙ ap (λ x. a ++ x) e ∙ sym (append_assoc a (name ∷ []) later) in
-          ap (node_at n) (append_assoc point a (name ∷ [])) ∙ at-front n p (a ++ name ∷ []) later s.folders rest ∙ parts.ends name later e)
+      let rest : rest_of n p ≡ (a ++ name ∷ []) ++ later = parts.rest ∙ ap (λ x. a ++ x) e ∙ sym (append_assoc a (name ∷ []) later) in
+      ap (node_at n) (append_assoc point a (name ∷ [])) ∙ at-front n p (a ++ name ∷ []) later s.folders rest ∙ parts.ends name later e)
 
   pub node-parts : node_at n p ≡ node_reached (length left) found
   node-parts = at-rest n p ∙ ap (node_in (tree_at n p)) parts.rest ∙ at left refl

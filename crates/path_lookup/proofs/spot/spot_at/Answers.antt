@@ -1,4 +1,4 @@
-use Rattle.std.proofs.Common.{◌≡◌, [], drop, length, slice_index_or, sym, ap, subst, ◌∙◌}
+use Rattle.std.proofs.Common.{[], drop, length, slice_index_or, sym, ap, subst, ◌∙◌}
 use Rattle.vfs_model.specs.Lookup.{covering_mount, rest_of}
 use Rattle.path_lookup.specs.Reach.{Reaches}
 use Rattle.path_lookup.specs.Standing.{space_of}
