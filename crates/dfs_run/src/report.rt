@@ -26,8 +26,14 @@ pub struct Report {
 struct NameText<'a>(&'a Name);
 
 impl fmt::Display for NameText<'_> {
+    ghost use Rattle.std.specs.Prelude.{Some};
+    ghost use Rattle.dfs_run.specs.Report.{name_text};
+
+    ghost output = { λ text. Some (name_text text.0.now) };
+
     fn fmt<W: fmt::Write>(&self, f: &mut fmt::Formatter<W>) -> fmt::Result {
-        for byte in self.0.as_bytes() {
+        let bytes = self.0.as_bytes();
+        for byte in bytes {
             f.write_char(char::from(*byte))?;
         }
         Ok(())
