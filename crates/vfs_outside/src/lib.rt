@@ -28,8 +28,6 @@ mod source;
 mod std_sink;
 mod std_source;
 mod stopped;
-#[cfg(test)]
-mod tests;
 
 pub use any_block::AnyBlock;
 pub use block::Block;
