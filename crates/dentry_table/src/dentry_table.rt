@@ -38,7 +38,8 @@ impl Model for DentryTable {
 impl DentryTable {
     /// No path has a holder.
     pub fn new(alloc: Global) -> Result<DentryTable, NoMemory>
-        ensures { IfOk result (λ table. HoldsNothing table.counts) }
+        ensures counts { IfOk result (λ table. HoldsNothing table.counts) }
+        ensures plan { IfOk result (λ table. table.room ≡ []) }
     {
         let counts = NameTree::new(alloc, 0)?;
         Ok(DentryTable {

@@ -1,9 +1,10 @@
 -- What a contract sees of `Holders`: what is held, and who holds it.
-use Rattle.std.specs.Prelude.{◌≡◌, ℕ, ◌+◌, ◌-◌, ◌*◌, ◌==◌, ◌⊎◌, ◌||◌, Bool, true, false, Option, Some, None, List, [], replicate, slice_index_or, slice_set, if◌then◌else◌}
+use Rattle.std.specs.Prelude.{◌≡◌, ℕ, ◌+◌, ◌-◌, ◌*◌, ◌==◌, ◌⊎◌, ◌||◌, Bool, true, false, Option, Some, None, option_map, List, [], ◌++◌, drop, length, map, replicate, slice_index_or, slice_set, if◌then◌else◌}
 use Rattle.std.specs.List.{list_any, sum_by}
 use Rattle.vfs_base.specs.Path.{Path}
 use Rattle.vfs_base.specs.declared.limits.TheConstants.{HOLDS, ROWS, SESSIONS}
 use Rattle.vfs_model.specs.FileLife.{refers_to}
+use Rattle.vfs_model.specs.Lookup.{is_prefix}
 use Rattle.vfs_model.specs.Namespace.{root_mount, same_path}
 use Rattle.vfs_model.specs.UmountSteps.{refers_to_mount}
 use Rattle.vfs_model.specs.declared.namespace.Mount.{Mount}
@@ -23,6 +24,8 @@ pub record Holding : Type 0 where
   pub paths : List (Option Path)
   -- the references and the working directories of sessions
   pub sessions : SessionTable
+  -- the path to which a planned move goes, for which there is room, or `/`
+  pub room : Path
 
 -- `/` is mounted, no row was bound, and each session stands in `/`
 abbrev pub opening_holding : Holding
@@ -31,6 +34,7 @@ opening_holding = record {
   rows = replicate ROWS opening_slot;
   paths = replicate ROWS None;
   sessions = record { references = replicate (SESSIONS * HOLDS) None; folders = replicate SESSIONS [] };
+  room = [];
 }
 
 -- where the file of a row stands, while it has a name and references; rows are counted from 1
@@ -126,3 +130,21 @@ dropped_at (Some path) q count = if same_path q path then 0 else count
 -- one more mount, which holds its point
 abbrev pub with_mounted : Holding → Mount → Holding
 with_mounted h mount = record h { mounts = with_mount h.mounts mount }
+
+-- a file stands elsewhere once old stands at new
+abbrev pub moved_path : Path → Path → Path → Path
+moved_path old new path = if is_prefix old path then new ++ drop (length old) path else path
+
+-- the files at and below old stand at and below new
+abbrev pub with_moved : Holding → Path → Path → Holding
+with_moved h old new = record h { paths = map (option_map (moved_path old new)) h.paths; room = [] }
+
+-- the new path of a file that moves with old to new; none where the file stays
+abbrev pub new_path : Path → Path → Option Path → Option Path
+new_path old new None = None
+new_path old new (Some path) = if is_prefix old path then Some (new ++ drop (length old) path) else None
+
+-- neither a working directory nor a point is the path or lies below it
+pub record HoldsFilesWithin (h : Holding) (path : Path) : Type 0 where
+  pub folders : list_any (is_prefix path) h.sessions.folders ≡ false
+  pub points : list_any (λ mount. is_prefix path mount.point) (mounts_of h.mounts) ≡ false

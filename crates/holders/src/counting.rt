@@ -56,7 +56,8 @@ pub fn opening_uses(alloc: Global) -> Result<List<u32>, NoMemory>
 
 // `/` has the holders that it begins with: the eight sessions and its mount.
 pub fn opening_dentries(alloc: Global) -> Result<DentryTable, NoMemory>
-    ensures { IfOk result (λ table. (q : Path) → count_at table.counts q ≡ 9 * one_at q []) }
+    ensures counts { IfOk result (λ table. (q : Path) → count_at table.counts q ≡ 9 * one_at q []) }
+    ensures plan { IfOk result (λ table. table.room ≡ []) }
 {
     let mut dentries = DentryTable::new(alloc)?;
     for _ in 0..SESSIONS as usize + 1 {

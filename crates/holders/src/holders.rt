@@ -49,9 +49,9 @@ impl Model for Holders {
 
     ghost Value = { Holding };
 
-    ghost view = { λ h. record { mounts = h.mounts; rows = h.rows; paths = h.paths; sessions = h.sessions } };
+    ghost view = { λ h. record { mounts = h.mounts; rows = h.rows; paths = h.paths; sessions = h.sessions; room = h.dentries.room } };
 
-    ghost invariant = { λ h. IsCounted (record { mounts = h.mounts; rows = h.rows; paths = h.paths; sessions = h.sessions }) h.dentries.counts h.uses };
+    ghost invariant = { λ h. IsCounted (record { mounts = h.mounts; rows = h.rows; paths = h.paths; sessions = h.sessions; room = h.dentries.room }) h.dentries.counts h.uses };
 }
 
 impl Holders {

@@ -57,6 +57,7 @@ pub fn enter(
     ensures paths { OnOk result (paths.new ≡ with_path paths.old row (Some path.now)) }
     ensures same { OnErr result (SameCounts dentries.old.counts dentries.new.counts) }
     ensures kept { OnErr result (paths.new ≡ paths.old) }
+    ensures plan { dentries.new.room ≡ dentries.old.room }
     ensures row { 1 ≤ row }
     ensures within { row ≤ ROWS }
 {
@@ -92,6 +93,7 @@ pub fn hold_again(dentries: &mut DentryTable, paths: &List<Option<Path>>, row: R
     requires held { 1 ≤ row → (path : Path) → path_at paths.now row ≡ Some path → 0 < count_at dentries.old.counts path }
     requires room { (path : Path) → path_at paths.now row ≡ Some path → count_at dentries.old.counts path < 2 ^ 32 - 1 }
     ensures counts { (q : Path) → count_at dentries.new.counts q ≡ count_at dentries.old.counts q + one_where q (path_at paths.now row) }
+    ensures plan { dentries.new.room ≡ dentries.old.room }
     ensures row { 1 ≤ row }
     ensures within { row ≤ ROWS }
 {
@@ -106,7 +108,8 @@ pub fn hold_again(dentries: &mut DentryTable, paths: &List<Option<Path>>, row: R
 pub fn release_at(dentries: &mut DentryTable, paths: &List<Option<Path>>, row: RowId)
     requires places { length paths.now ≡ ROWS }
     requires held { 1 ≤ row → (path : Path) → path_at paths.now row ≡ Some path → 0 < count_at dentries.old.counts path }
-    ensures { (q : Path) → count_at dentries.new.counts q + one_where q (path_at paths.now row) ≡ count_at dentries.old.counts q }
+    ensures counts { (q : Path) → count_at dentries.new.counts q + one_where q (path_at paths.now row) ≡ count_at dentries.old.counts q }
+    ensures plan { dentries.new.room ≡ dentries.old.room }
 {
     if let Some(path) = &paths.as_slice()[row.place()] {
         dentries.release(path.as_names());
@@ -127,6 +130,7 @@ pub fn drop_path(dentries: &mut DentryTable, paths: &mut List<Option<Path>>, row
     requires { length paths.old ≡ ROWS }
     ensures counts { (q : Path) → count_at dentries.new.counts q ≡ dropped_at (path_at paths.old row) q (count_at dentries.old.counts q) }
     ensures paths { paths.new ≡ with_path paths.old row None }
+    ensures plan { dentries.new.room ≡ dentries.old.room }
     ensures row { 1 ≤ row }
     ensures within { row ≤ ROWS }
 {

@@ -21,7 +21,7 @@ raise-requires-clause-room c = λ below. let few = few-uses c.self.invariant c.a
 
 pub invariant_of-self : goal.invariant_of-self
 invariant_of-self c =
-    rw (c.set_reference.ensures.next, c.raise.ensures.number, c.hold.ensures)
+    rw (c.set_reference.ensures.next, c.raise.ensures.number, c.hold.ensures, c.hold_again.ensures.plan)
     (counted-mapping c.self.invariant (HOLDS * (c.args.session - 1) + (c.args.number - 1)) c.args.reference
     record {
       within = c.set_reference.ensures.within;

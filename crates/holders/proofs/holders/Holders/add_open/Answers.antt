@@ -19,7 +19,7 @@ raise-requires-clause-room c = λ below. let few = few-uses c.self.invariant c.a
 
 pub invariant_of-self-2 : goal.invariant_of-self-2
 invariant_of-self-2 c =
-    rw (c.set_reference.ensures.next, c.raise.ensures.number, c.hold.ensures, c.in_ok-enter.ensures.paths)
+    rw (c.set_reference.ensures.next, c.raise.ensures.number, c.hold.ensures, c.in_ok-enter.ensures.paths, c.in_ok-enter.ensures.plan)
     (counted-open c.self.invariant (HOLDS * (c.args.session - 1) + (c.args.number - 1)) c.args.reference c.args.path.now
     record {
       within = c.set_reference.ensures.within;

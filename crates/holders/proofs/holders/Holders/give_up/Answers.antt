@@ -16,5 +16,5 @@ lower-requires-clause-used c = λ below. is-used c.self.invariant _ c.in_ok-file
 
 pub invariant_of-self : goal.invariant_of-self
 invariant_of-self c =
-    rw (c.take.ensures.left, c.lower.ensures.number, c.forget.ensures, c.release.ensures.table, c.holds-is_last.ensures)
-    (counted-left c.self.invariant _ c.in_ok-file.file c.in_ok-file.mount c.in_ok-file.ensures.names c.release_at.ensures c.lower.ensures.below)
+    rw (c.take.ensures.left, c.lower.ensures.number, c.forget.ensures, c.release.ensures.table, c.holds-is_last.ensures, c.release_at.ensures.plan)
+    (counted-left c.self.invariant _ c.in_ok-file.file c.in_ok-file.mount c.in_ok-file.ensures.names c.release_at.ensures.counts c.lower.ensures.below)

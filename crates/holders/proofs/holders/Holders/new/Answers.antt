@@ -4,8 +4,8 @@ use Rattle.holders.proofs.holders.Holders.new.Goals as goal
 
 pub invariant_of-result : goal.invariant_of-result
 invariant_of-result c =
-    rw (c.in_ok-mounts.ensures, c.in_ok-rows.ensures, c.in_ok-paths.ensures, c.in_ok-sessions.ensures, c.in_ok-uses.ensures)
-    (opening-counted _ c.in_ok-dentries.ensures)
+    rw (c.in_ok-mounts.ensures, c.in_ok-rows.ensures, c.in_ok-paths.ensures, c.in_ok-sessions.ensures, c.in_ok-uses.ensures, c.in_ok-dentries.ensures.plan)
+    (opening-counted _ c.in_ok-dentries.ensures.counts)
 
 pub returns : goal.returns
-returns c = rw (c.in_ok-mounts.ensures, c.in_ok-rows.ensures, c.in_ok-paths.ensures, c.in_ok-sessions.ensures) refl
+returns c = rw (c.in_ok-mounts.ensures, c.in_ok-rows.ensures, c.in_ok-paths.ensures, c.in_ok-sessions.ensures, c.in_ok-dentries.ensures.plan) refl

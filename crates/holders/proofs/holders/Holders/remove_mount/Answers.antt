@@ -11,7 +11,7 @@ release-requires c =
 
 pub invariant_of-self : goal.invariant_of-self
 invariant_of-self c =
-    rw c.remove.ensures
+    rw (c.remove.ensures, c.release.ensures.plan)
     (counted-unmount c.self.invariant c.point.ensures.sound c.args.mount c.requires.not_root c.point.result.now c.point.ensures.point
     (subst (λ h. is_used h c.args.mount ≡ false) (sym c.self.view_is) c.requires.unused)
     (subst (λ p. Lowers c.self.inside.dentries.counts c.release.new.self.counts p) c.as_names-point.ensures.value c.release.ensures.counts))

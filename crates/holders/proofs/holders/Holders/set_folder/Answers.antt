@@ -23,7 +23,7 @@ raise-requires-clause-room c = λ below.
 
 pub invariant_of-self-2 : goal.invariant_of-self-2
 invariant_of-self-2 c =
-    rw (c.set_folder.ensures, c.raise.ensures.number, c.lower.ensures.number, c.under-2.ensures.mount, c.under.ensures.mount, c.as_names-old.ensures.value, c.folder_of.ensures.folder, c.as_names-2.ensures.value)
+    rw (c.set_folder.ensures, c.release.ensures.plan, c.in_ok-hold.ensures.plan, c.raise.ensures.number, c.lower.ensures.number, c.under-2.ensures.mount, c.under.ensures.mount, c.as_names-old.ensures.value, c.folder_of.ensures.folder, c.as_names-2.ensures.value)
     (counted-folder c.self.invariant c.args.session c.folder_of.ensures.within c.args.folder (covering-number c.under-2.ensures.sound _) (covering-number c.under.ensures.sound _)
     (subst (λ p. Raises c.self.inside.dentries.counts c.hold.new.self.counts p) c.as_names.ensures.value c.in_ok-hold.ensures.ok)
     (subst (λ p. Lowers c.hold.new.self.counts c.release.new.self.counts p) (c.as_names-old.ensures.value ∙ c.folder_of.ensures.folder) c.release.ensures.counts))
