@@ -2,11 +2,13 @@ pub mod Folders
 pub mod Leaving
 pub mod Mappings
 pub mod Mounting
+pub mod Moving
 pub mod Numbers
 pub mod Opening
 pub mod Opens
 pub mod Referring
 pub mod Rows
 pub mod Slots
+pub mod Taking
 pub mod Unlinking
 pub mod Users

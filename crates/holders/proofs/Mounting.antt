@@ -34,7 +34,7 @@ second-false true b h = absurd (cc)
 second-false false b h = h
 
 -- one of a list does not pass a test that none passes
-none-at : {X : Type 0} (test : X → Bool) (xs : List X) (place : ℕ) (d : X) → list_any test xs ≡ false → place < length xs → test (get_or xs place d) ≡ false
+pub none-at : {X : Type 0} (test : X → Bool) (xs : List X) (place : ℕ) (d : X) → list_any test xs ≡ false → place < length xs → test (get_or xs place d) ≡ false
 none-at test [] place d h l = absurd (omega (arith, l))
 none-at test (x ∷ xs) zero d h l = first-false (test x) (list_any test xs) h
 none-at test (x ∷ xs) (suc place) d h l = none-at test xs place d (second-false (test x) (list_any test xs) h) (omega (arith, l))

@@ -20,7 +20,7 @@ use Rattle.holders.proofs.Slots.{at-slot, other-path, other-slot, own-path, own-
 use Rattle.holders.specs.Counted.{IsCounted}
 use Rattle.holders.specs.Holding.{Holding, HoldsFiles, dropped_at, holders_at, one_referred, one_where, path_at, uses_of, with_path, without_name}
 
-same-or-other-path : (p q : Path) → (p ≡ q) ⊎ (p ≢ q)
+pub same-or-other-path : (p q : Path) → (p ≡ q) ⊎ (p ≢ q)
 same-or-other-path p q = elim (same_path p q) as (λ b. same_path p q ≡ b → (p ≡ q) ⊎ (p ≢ q)) [
   | true ↦ λ e. inl (same_path-is p q e)
   | false ↦ λ e. inr (λ f. absurd (let yes = ap (same_path p) (sym f) ∙ same_path-itself p in cc))
@@ -39,7 +39,7 @@ none-counted test (x ∷ xs) e = go (test x) refl (λ f. none-counted test xs f)
         let later = again e in
         omega (arith, whole, first, later)
 
-zeros : {X : Type 0} (f : X → ℕ) (xs : List X) → ((place : ℕ) (d : X) → place < length xs → f (get_or xs place d) ≡ 0) → sum_by f xs ≡ 0
+pub zeros : {X : Type 0} (f : X → ℕ) (xs : List X) → ((place : ℕ) (d : X) → place < length xs → f (get_or xs place d) ≡ 0) → sum_by f xs ≡ 0
 zeros f [] none = refl
 zeros f (x ∷ xs) none =
     let whole = sum_by-cons f x xs in

@@ -1,5 +1,5 @@
 -- What a contract sees of `Holders`: what is held, and who holds it.
-use Rattle.std.specs.Prelude.{◌≡◌, ℕ, ◌+◌, ◌-◌, ◌*◌, ◌==◌, ◌⊎◌, ◌||◌, Bool, true, false, Option, Some, None, option_map, List, [], ◌++◌, drop, length, map, replicate, slice_index_or, slice_set, if◌then◌else◌}
+use Rattle.std.specs.Prelude.{◌≡◌, ℕ, ◌≤◌, ◌+◌, ◌-◌, ◌*◌, ◌==◌, ◌⊎◌, ◌||◌, Bool, true, false, Option, Some, None, option_map, List, [], ◌++◌, drop, length, map, replicate, slice_index_or, slice_set, if◌then◌else◌}
 use Rattle.std.specs.List.{list_any, sum_by}
 use Rattle.vfs_base.specs.Path.{Path}
 use Rattle.vfs_base.specs.declared.limits.TheConstants.{HOLDS, ROWS, SESSIONS}
@@ -139,12 +139,31 @@ moved_path old new path = if is_prefix old path then new ++ drop (length old) pa
 abbrev pub with_moved : Holding → Path → Path → Holding
 with_moved h old new = record h { paths = map (option_map (moved_path old new)) h.paths; room = [] }
 
+-- a move that is planned: by row, where a file that moves will stand
+pub record Renaming : Type 0 where
+  pub from : Path
+  pub to : Path
+  pub paths : List (Option Path)
+
 -- the new path of a file that moves with old to new; none where the file stays
 abbrev pub new_path : Path → Path → Option Path → Option Path
 new_path old new None = None
 new_path old new (Some path) = if is_prefix old path then Some (new ++ drop (length old) path) else None
 
+-- the plan has the new path of each file that moves, and of no other
+pub record Renames (plan : Renaming) (paths : List (Option Path)) : Type 0 where
+  pub within : length plan.paths ≤ length paths
+  pub places : (place : ℕ) → slice_index_or plan.paths place None ≡ new_path plan.from plan.to (slice_index_or paths place None)
+
 -- neither a working directory nor a point is the path or lies below it
 pub record HoldsFilesWithin (h : Holding) (path : Path) : Type 0 where
   pub folders : list_any (is_prefix path) h.sessions.folders ≡ false
   pub points : list_any (λ mount. is_prefix path mount.point) (mounts_of h.mounts) ≡ false
+
+-- the plan may be carried out: there is room for it, only files are held at and below its paths, and at and below the new one none is
+pub record MayMove (h : Holding) (plan : Renaming) : Type 0 where
+  pub room : h.room ≡ plan.to
+  pub renames : Renames plan h.paths
+  pub source : HoldsFilesWithin h plan.from
+  pub target : HoldsFilesWithin h plan.to
+  pub empty : (place : ℕ) (path : Path) → slice_index_or h.paths place None ≡ Some path → is_prefix plan.to path ≡ false

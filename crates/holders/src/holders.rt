@@ -12,10 +12,12 @@ ghost use Rattle.mount_tree.specs.declared.mount_fault.MountFault.TheVariants as
 ghost use Rattle.session_holds.specs.SessionTable.{folder_of, least_free_number, reference_at, with_folder_of, with_reference};
 ghost use Rattle.vnode_table.specs.SlotTable.{IsFreeRow, file_at, free_files, is_unused, slot_at, unbound_slot, with_slot};
 ghost use Rattle.holders.specs.Counted.{Names};
-ghost use Rattle.holders.specs.Holding.{holders_at, HoldsFiles, is_used, MayStand, opening_holding, path_at, with_bound, with_mapping, with_mounted, with_open, with_path, without_name, without_reference};
+ghost use Rattle.holders.specs.Holding.{holders_at, HoldsFiles, is_used, MayMove, MayStand, opening_holding, path_at, Renames, with_bound, with_mapping, with_mounted, with_moved, with_open, with_path, without_name, without_reference};
+ghost use Rattle.dentry_table.specs.DentryTable.{AreApart};
 ghost use Rattle.vfs_base.specs.Path.{Path};
 
 use crate::counting::{is_counted, lower, no_paths, opening_dentries, opening_uses, raise};
+use crate::moves::{RenamePlan, planned_paths, take_paths};
 use crate::references::{drop_path, enter, forget, hold_again, release_at, set_reference, target};
 use dentry_table::DentryTable;
 use mount_tree::{MountFault, MountTree};
@@ -294,6 +296,50 @@ impl Holders {
         let point = self.mounts.point(mount).as_names();
         self.dentries.release(point);
         self.mounts.remove(mount);
+    }
+}
+
+impl Holders {
+    /// Plans a rename: takes the room of the move of all that is held at and below one path to another. There is
+    /// room for one move at a time; an earlier plan is given up. Rows are walked over only where something is held
+    /// at or below the first path.
+    pub fn plan_move(&mut self, from: &Path, to: &Path) -> Result<RenamePlan, NoMemory>
+        requires { AreApart from.now to.now }
+        ensures from { IfOk result (λ plan. plan.from ≡ from.now) }
+        ensures to { IfOk result (λ plan. plan.to ≡ to.now) }
+        ensures paths { IfOk result (λ plan. Renames plan self.old.paths) }
+        ensures room { OnOk result (self.new ≡ record self.old { room = to.now }) }
+        ensures err { OnErr result (self.new ≡ record self.old { room = [] }) }
+    {
+        let holders = self.dentries.plan_move(from, to)?;
+        match planned_paths(self.alloc, &self.dentries, &self.paths, from, to) {
+            Ok(paths) => Ok(RenamePlan { holders, paths }),
+            Err(fault) => {
+                self.dentries.cancel_move(holders);
+                Err(fault)
+            }
+        }
+    }
+
+    /// Carries a rename out: the files at and below the plan's first path stand at and below its second one, and
+    /// are held there. No memory is wanted.
+    pub fn moved(&mut self, plan: RenamePlan)
+        requires { MayMove self.old plan }
+        ensures { self.new ≡ with_moved self.old plan.from plan.to }
+    {
+        let RenamePlan { holders, paths } = plan;
+        self.dentries.moved(holders);
+        take_paths(&mut self.paths, paths);
+    }
+
+    /// Gives the room of a rename back. No memory is wanted.
+    pub fn cancel_move(&mut self, plan: RenamePlan)
+        requires { self.old.room ≡ plan.to }
+        ensures { self.new ≡ record self.old { room = [] } }
+    {
+        let RenamePlan { holders, paths } = plan;
+        drop(paths);
+        self.dentries.cancel_move(holders);
     }
 }
 

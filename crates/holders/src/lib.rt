@@ -8,6 +8,8 @@
 
 mod counting;
 mod holders;
+mod moves;
 mod references;
 
 pub use holders::Holders;
+pub use moves::RenamePlan;

@@ -24,7 +24,8 @@ invariant_of-self-in-Ok-hold c =
 pub invariant_of-self-in-Err-hold : goal.invariant_of-self-in-Err-hold
 invariant_of-self-in-Err-hold c =
     rw (
-      c.remove.ensures, c.in-Err-hold.ensures.plan,
+      c.remove.ensures,
+      c.in-Err-hold.ensures.plan,
       taken-back c.self.inside.mounts c.add.new.self (record { number = c.in-Ok.number; point = c.args.point; fs = c.args.fs; source = c.args.source }) c.in-Ok.ensures.mount
           (added c.self.inside.mounts c.in-Ok.number c.self.invariant.places.mounts c.in-Ok.ensures.full c.in-Ok.ensures.number),
     )
@@ -33,7 +34,8 @@ invariant_of-self-in-Err-hold c =
 pub returns-in-Err-hold-clause-refused : goal.returns-in-Err-hold-clause-refused
 returns-in-Err-hold-clause-refused c =
     rw (
-      c.remove.ensures, c.in-Err-hold.ensures.plan,
+      c.remove.ensures,
+      c.in-Err-hold.ensures.plan,
       taken-back c.self.inside.mounts c.add.new.self (record { number = c.in-Ok.number; point = c.args.point; fs = c.args.fs; source = c.args.source }) c.in-Ok.ensures.mount
           (added c.self.inside.mounts c.in-Ok.number c.self.invariant.places.mounts c.in-Ok.ensures.full c.in-Ok.ensures.number),
     )
